@@ -93,6 +93,12 @@ def unbroken(newest):
     return len(newest) - begun
 
 
+def gone_on(newest):
+    """How many samples the newest is ahead of the first one."""
+    outages = [values["missing"] for it in newest for word, values in it.said if word == "samples-missing"]
+    return sum(outages) + len(newest) - 1
+
+
 def advance(period, newest, now, count):
     """The whole number nearest to what the time says, of those that the counts allow; of two as near, the greater."""
     wanted = fractions.Fraction((now - newest.now) * period, SECOND)
@@ -103,12 +109,9 @@ def advance(period, newest, now, count):
 
 def sample_after(earlier, period, now, count, synch):
     """A sample beside the earlier ones of its stream, and in how many a second they come, if that is known."""
-    way, said = "counted", []
-    if period is not None:
-        way, said = judged(in_sequence(earlier), period, now, count)
-        before = earlier[-1].synch if earlier else synch
-        said += [("synch", {"from": before, "to": synch})] if before != synch else []
-    return Sample(now, count, synch, way, said)
+    way, said = ("counted", []) if period is None else judged(in_sequence(earlier), period, now, count)
+    before = earlier[-1].synch if earlier else synch
+    return Sample(now, count, synch, way, said + [("synch", {"from": before, "to": synch})] * (before != synch))
 
 
 def judged(newest, period, now, count):
@@ -122,7 +125,10 @@ def judged(newest, period, now, count):
         return "next", []
     if more > 1:
         return "missing", [("samples-missing", {"from": (last.count + 1) % period, "missing": more - 1})]
-    way = "repeated" if -more < unbroken(newest) else "late"
+    is_copy = -more < unbroken(newest)
+    if not is_copy and -more > gone_on(newest):
+        return "before the first", []
+    way = "repeated" if is_copy else "late"
     return way, [(f"sample-{way}", {"cnt": count})]
 
 
@@ -160,11 +166,25 @@ def sightings(held):
             yield key, tuple(int.from_bytes(asdu[name], "big") for name in ("smp_cnt", "smp_synch"))
 
 
+def far_back(times):
+    """By how much the last of these times lies below the greatest of the others, where that is a second or more; else 0."""
+    by = max(times[:-1], default=0) - times[-1]
+    return by if by >= SECOND else 0
+
+
+def time_back(times):
+    """By how much time goes back at the last of these times; 0 where it does not, or did so right before it too."""
+    return 0 if len(times) > 1 and far_back(times[:-1]) else far_back(times)
+
+
 def findings(octets, period=None, has_failed=False, events_of=reference.events):
-    """What is found in the events that are read of octets: the number and the time of the event, a word, of whom it is said, and values.
-    At the end, where the input has no error, what has not come back and totals, which have no event."""
-    known, now = {}, 0
+    """What is found in the events that are read of octets: the number and the time of the event, a word, of whom it is said, if of anyone,
+    and values. At the end, where the input has no error, what has not come back and totals, which have no event."""
+    known, now, times = {}, 0, []
     for number, (sort, moment, held) in events_of(octets, has_failed):
+        times.append(moment)
+        if by := time_back(times):
+            yield number, moment, "time-back", None, {"by": by}
         now = max(now, moment)
         for key, numbers in sightings(held) if sort == "frame" else ():
             earlier = known.setdefault(key, [])
@@ -186,6 +206,25 @@ def closing(known, period, now):
         yield None, None, f"total {key[0]}", key, {name: min(it, MOST) for name, it in total.items()}
 
 
+def streams(octets, has_failed=False, events_of=reference.events):
+    """The streams that come in the events that are read of octets, also where these end by an error."""
+    seen = {}
+    try:
+        for _, (sort, _, held) in events_of(octets, has_failed):
+            seen.update((key, None) for key, _ in (sightings(held) if sort == "frame" else ()) if key[0] == "sv")
+    except reference.ListFault:
+        pass
+    return list(seen)
+
+
+def not_judged(keys):
+    """What is said of streams that have no period; nothing where there is none."""
+    names = list(dict.fromkeys(key[3].decode() for key in keys))
+    named = ", ".join([*names[:4], *[".."] * (len(names) > 4)])
+    many = "1 stream has" if len(keys) == 1 else f"{len(keys)} streams have"
+    return [f"not judged: {many} no period ({named}): give --period N"] * bool(keys)
+
+
 def key_text(key):
     """A sender or a stream, as a line names it."""
     sort, app_id, *own = key
@@ -195,7 +234,8 @@ def key_text(key):
 
 
 def line_of(number, word, key, values):
-    return " ".join([*([] if number is None else [str(number)]), word, key_text(key), *(f"{name}={it}" for name, it in values.items())])
+    whose = [] if key is None else [key_text(key)]
+    return " ".join([*([] if number is None else [str(number)]), word, *whose, *(f"{name}={it}" for name, it in values.items())])
 
 
 # What is found and is no loss, in a line of its own.

@@ -199,7 +199,9 @@ LOST_NAMES = {"st": "stNum", "sq": "sqNum", "cnt": "smpCnt", "states-missing": "
 
 
 def lost(name, place, moment, word, key, values):
-    """The object of what `losses` says of a sender or a stream. At the end there is no event."""
+    """The object of what `losses` says of a sender, a stream or a time. At the end there is no event."""
+    if key is None:
+        return {**head(name, place, moment, word), **values}
     sort, app_id, *own = key
     whose = {"gocbRef": texts(own[0]), "simulation": own[1]} if sort == "goose" else {"source": own[0].hex(), "svID": texts(own[1])}
     kind = word.replace(" ", "-")

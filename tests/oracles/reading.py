@@ -1,9 +1,9 @@
 """What the commands that read events write of a list or of a capture, by the slow programs."""
 from oracles import dates, inventory, losses, objects, packets, reference, skipping, subscriber, watcher
 
-COMMANDS = ("show", "check", "blocks", "replay", "watch", "losses")
+COMMANDS = tuple(name for name, words in reference.TAKES.items() if "[OPTIONS]" in words)
 CAPTURE, SKIP, TIME, JSON = "--capture", "--skip-other", "--time", "--json"
-OPTIONS = {CAPTURE, SKIP, TIME, JSON}
+OPTIONS = set(reference.OPTIONS)
 
 
 def options_of(asked):

@@ -6,7 +6,7 @@ import sys
 
 sys.path.insert(0, os.path.dirname(os.path.dirname(os.path.abspath(__file__))))
 from helpers.harness import never_seen, text  # noqa: E402
-from oracles import reading, reference, skipping  # noqa: E402
+from oracles import losses, reading, reference, skipping  # noqa: E402
 
 
 def all_octets(descriptor):
@@ -20,7 +20,7 @@ def all_octets(descriptor):
         return bytes(octets), True
 
 
-def said(asked, lines, status, passed):
+def said(asked, lines, status, passed, unjudged):
     """What standard error says, of a run whose words are right."""
     if status == 4:
         return ["read or write fault: cannot read: Input/output error"]
@@ -31,6 +31,7 @@ def said(asked, lines, status, passed):
                  for at, (kind, (count, first)) in enumerate(passed.kinds.items())]
         rest = [f"{passed.others[0]} of others, from {passed.others[1]} on"] if passed.others else []
         told.append(f"passed over: {'; '.join(kinds + rest)}")
+    told += [f"goose losses: {it}" for it in losses.not_judged(unjudged)]
     if status == 3:
         number, sort, name = lines[-1].split(" ")
         place = f"line {number}" if sort == "list" else f"packet {number}" if number != "0" else "header"
@@ -39,6 +40,12 @@ def said(asked, lines, status, passed):
         blocks = [word for word in reading.options_of(asked)[0][1:] if word != "--"]
         told += never_seen(blocks, text(lines)).decode().splitlines()
     return told
+
+
+def unjudged_of(asked, plain, octets, has_failed):
+    """The streams that a command line does not judge."""
+    is_asked = plain[0] == "losses" and reading.own_words(plain)[1] is None
+    return losses.streams(octets, has_failed, reading.reader_of(asked)) if is_asked else []
 
 
 def refusal(plain):
@@ -67,7 +74,7 @@ def main(asked):
     octets, has_failed = all_octets(reference.LIST_DESCRIPTOR)
     lines, status, passed = reading.answered(asked, octets, has_failed)
     status = status if reference.put(1, reading.written(asked, lines, octets, has_failed)) else 4
-    reference.put(2, said(asked, lines, status, passed))
+    reference.put(2, said(asked, lines, status, passed, unjudged_of(asked, plain, octets, has_failed)))
     return status
 
 

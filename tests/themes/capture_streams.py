@@ -120,7 +120,7 @@ def failing():
         yield Full(f"{name} on a full disk", asked, faulty, None, 4, FAULT)
         yield Full(f"{name} of a fault on a full disk", asked, b"abcd", None, 4, FAULT)
         yield Full(f"{name} of nothing on a full disk", asked, START, None)
-        yield Unread(f"{name} to nobody", asked, faulty, None, 4, FAULT)
+        yield Unread(f"{name} to nobody", asked, faulty)
         yield TriedOnce(f"{name} tries no failed write again", asked, faulty)
         if command not in ("blocks", "losses"):
             yield Full(f"{name} of a long capture on a full disk", asked, long, None, 4, FAULT)

@@ -194,7 +194,7 @@ def failing():
         yield Full(f"{command} on a full disk", asked, faulty, None, 4, FAULT)
         yield Full(f"{command} of a fault on a full disk", asked, b"X\n", None, 4, FAULT)
         yield Full(f"{command} of nothing on a full disk", asked, b"", None)
-        yield Unread(f"{command} to nobody", asked, faulty, None, 4, FAULT)
+        yield Unread(f"{command} to nobody", asked, faulty)
         yield TriedOnce(f"{command} tries no failed write again", asked, faulty)
 
 

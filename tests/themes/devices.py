@@ -115,7 +115,14 @@ class TriedOnce(Case):
 
 
 class Unread(Case):
-    """Standard output is a pipe that nobody reads any more, in a program that is not stopped for it."""
+    """Standard output is a pipe that nobody reads any more, in a program that is not stopped for it: status 4, and no word of it."""
+
+    def __init__(self, name, words, stdin):
+        super().__init__(name, words, stdin, None, 4)
+
+    def why_wrong(self, program):
+        _, complained, _ = self.run(program)
+        return super().why_wrong(program) + ([f"standard error has {complained!r}"] if complained else [])
 
     def run(self, program):
         reading, writing = os.pipe()
@@ -230,13 +237,14 @@ def writing():
         yield Full(f"{command} of a fault on a full disk", asked, b"X\n", None, 4, FAULT)
         yield Full(f"{command} of nothing on a full disk", asked, b"", None,
                    *((4, FAULT) if first else (0,)))
-        yield Unread(f"{command} to nobody", asked, given(command), None, 4, FAULT)
+        yield Unread(f"{command} to nobody", asked, given(command))
         yield TriedOnce(f"{command} tries no failed write again", asked, given(command))
     yield from importing()
     yield Full("show of good frames on a full disk", ["show"], listed(*[WORKED] * 2000), None, 4, FAULT)
     yield Full("rewrite of good frames on a full disk", ["rewrite"], listed(*[WORKED] * 2000), None, 4, FAULT)
     yield Full("check of good frames writes nothing", ["check"], listed(*[WORKED] * 2000), None, 0)
     yield Full("help on a full disk", ["--help"], b"", None, 4, FAULT)
+    yield Unread("help to nobody", ["--help"], b"")
     for asked in (["bogus"], ["show", "more"], ["replay", "no block"], []):
         yield Unsaid(f"a mistake in the arguments that cannot be told, {asked}", asked, b"", b"", 2)
 
@@ -253,7 +261,7 @@ def importing():
     yield Full("import on a full disk", ["import"], capture, None, 4, FAULT)
     yield Full("import of nothing on a full disk", ["import"], b"", None, 4, FAULT)
     yield Full("import of a long capture on a full disk", ["import"], header() + record(1, 2, WORKED) * 20000, None, 4, FAULT)
-    yield Unread("import to nobody", ["import"], capture, None, 4, FAULT)
+    yield Unread("import to nobody", ["import"], capture)
     yield TriedOnce("import tries no failed write again", ["import"], capture)
     yield Endless("import of zeros without end", ["import"], ["cat"], b"V2\n# 0 capture CaptureHeader\n")
     for size in (1, 2, 3, 7, 16, 24):

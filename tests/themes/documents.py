@@ -10,7 +10,6 @@ import shutil
 import subprocess
 
 from helpers.harness import Skipped
-from oracles import reference
 
 TOP = pathlib.Path(__file__).resolve().parent.parent.parent
 DEFINITIONS = TOP / "docs" / "DEFINITIONS.md"
@@ -152,23 +151,26 @@ class Carried:
             for file in (TOP / "crates" / crate / "src").rglob("*.rt"):
                 for owner, _, call, contract, _ in tables.owned_contracts(file.read_text()):
                     stated.setdefault(call, set()).update(re.findall(NAMED, contract))
-        text = PROOFS.read_text()
-        rows = re.findall(r"(?m)^\| .* \| (.*) \|$", part(text, "The headline") + part(text, "The promises"))
+        text = part(PROOFS.read_text(), "The promises")
+        for name, calls in re.findall(r'"([Ee]ach \w+)" is ((?:`\w+`,?\s)*`\w+`)', text):
+            text = text.replace(f" of {name.lower()}", f" of {' '.join(calls.split())}")
+        rows = re.findall(r"(?m)^\| .* \| (.*) \|$", text)
         why = [why for row in rows for claim in re.split(r"; |\. ", row) for why in self.why_claim_wrong(claim, stated)]
         return why if rows else ["there are no rows"]
 
     def why_claim_wrong(self, claim, stated):
         clauses, _, calls = claim.partition(" of ")
         named = set(re.findall(r"`(\w+)`", clauses))
-        laws = re.findall(r"`(?:\w+::)?laws::(\w+)`", claim)
+        rooms = {file.stem for file in (TOP / "crates" / "joint_laws" / "src").glob("*.rt")}
+        laws = set(re.findall(r"`(?:\w+::)?laws::(?:\w+::)?(\w+)`", claim)) - rooms
         for call in re.findall(r"`(?:\w+::)*(\w+)`", calls):
-            if call == "laws":
-                laws += sorted(named)
+            if call == "laws" or call in rooms:
+                laws |= named
             elif call in stated:
                 yield from (f"{call} has no clause {it}" for it in sorted(named - stated[call]))
             elif call not in {*tables.crates(), "contents", "fields"}:
                 yield f"there is no call {call}"
-        yield from (f"there is no law {it}" for it in laws if it not in stated)
+        yield from (f"there is no law {it}" for it in sorted(laws) if it not in stated)
 
 
 class Judged:
@@ -185,7 +187,7 @@ class Judged:
 
 class Refused:
     """Each wrong body that the gate tries says what it does, and names a call of its crate and a clause of that; the table of
-    docs/tables has it. The rows of docs/PROOFS.md are of that table, and the count of the others is what is said of it."""
+    docs/tables has it. The count of the others is what docs/PROOFS.md says."""
 
     name = "the wrong bodies of docs/PROOFS.md"
 
@@ -194,10 +196,8 @@ class Refused:
 
     def why_wrong(self, _program):
         table = (TOP / "docs" / "tables" / "WRONG_BODIES.md").read_text().replace("](../../", "](../").splitlines()
-        rows = re.findall(r"(?m)^\| .*\.edit\) \| .* \|$", self.text)
-        why = [f"the table has no row {it}" for it in rows if it not in table] + ([] if rows else ["there are no rows"])
         others = len(list((TOP / "crates").glob("*/wrong_bodies/*.edit")))
-        why += [] if f"\n{others} more stand in" in self.text else [f"{others} others are not told"]
+        why = [] if f"\n{others} more stand in" in self.text else [f"{others} others are not told"]
         for edit in sorted((TOP / "crates").glob("*/must-fail/*.edit")):
             name = str(edit.relative_to(TOP))
             why += [] if sum(f"](../{name})" in row for row in table) == 1 else [f"the table has not one row of {name}"]
@@ -241,6 +241,31 @@ class Forms:
         yield from (f"{crate.name} has no {it}" for it in {*row} - {crate.name} if "/" not in it and not re.search(rf"\b{it}\b", code))
 
 
+class Exercised:
+    """The exercises of CONTRIBUTING.md name files and words that there are, but for what they add."""
+
+    name = "the exercises of CONTRIBUTING.md"
+    ADDED = re.compile(r"[Ee]rrors|LengthShort|entries=")
+    PLACES = ("", "crates", "docs", "tests", "crates/{}", "crates/{}/specs", "crates/{}/proofs", "crates/{}/src", "tests/oracles", "tests/themes")
+
+    def why_wrong(self, _program):
+        text = part((TOP / "CONTRIBUTING.md").read_text(), "Four exercises")
+        files = [file for where in ("*/src/**/*.rt", "*/specs/**/*.antt", "*/proofs/**/*.antt") for file in (TOP / "crates").glob(where)]
+        code = "\n".join(file.read_text() for file in [*files, *(TOP / "tests").glob("*/*.py")])
+        crate, why = "", [] if text else ["there are none"]
+        for named in re.findall(r"`([^`\n]+)`", text):
+            crate = named if (TOP / "crates" / named).is_dir() and "/" not in named else crate
+            if self.ADDED.search(named) or named == crate:
+                continue
+            is_path = "/" in named or re.search(r"\.(antt|rt|py|md|1)$", named)
+            if is_path and re.fullmatch(r"[\w/.]+", named):
+                found = any((TOP / it.format(crate) / named).exists() for it in self.PLACES)
+                why += [] if found else [f"there is no {named} of {crate}"]
+            elif re.fullmatch(r"[A-Za-z]\w*(_\w+|[a-z][A-Z]\w*)", named):
+                why += [] if re.search(rf"\b{named}\b", code) else [f"nothing is called {named}"]
+        return why
+
+
 class StandsOn:
     """A crate's line in crates.txt names the crates that its sources use, and no others."""
 
@@ -251,9 +276,15 @@ class StandsOn:
         files = [file for folder in ("src", "specs", "proofs") for file in (TOP / "crates" / self.crate / folder).rglob("*")
                  if file.suffix in COMMENTS]
         code = "\n".join(re.sub(COMMENTS[file.suffix], "", file.read_text()) for file in files)
-        used = {it for it in self.crates - {self.crate} if re.search(rf"\b{it}(?:::|\.[A-Za-z])", code)}
+        used = {it for it in self.crates - {self.crate} if self.uses(it, code)}
         return ([f"{it} is used and not named" for it in sorted(used - self.named)]
                 + [f"{it} is named and not used" for it in sorted(self.named - used)])
+
+    @staticmethod
+    def uses(crate, code):
+        """Whether code names a crate: by a path that begins with it, unless that is a module of another crate, taken by its name."""
+        return (re.search(rf"(?:Rattle\.|(?<![\w:.])){crate}(?:::|\.[A-Za-z])", code)
+                and not re.search(rf"\buse \w+::(?:{crate};|\{{[^}}]*\b{crate}\b)", code))
 
 
 class Linked:
@@ -324,14 +355,19 @@ class Kit:
         return why + [f"rt version says {told!r}" for it in sums["README.md"] if rt and f"logic {it}\n" not in told]
 
 
-class Commands:
-    """docs/FORMATS.md has each command, and what its help says."""
+class Pictured:
+    """Each crate of the picture has its words, few enough to stand in its box."""
 
-    name = "the commands of docs/FORMATS.md"
+    name = "the words of docs/tables/crates.svg"
+    MOST, LONGEST = 5, 29
 
     def why_wrong(self, _program):
-        told = dict(re.findall(r"(?m)^\| `goose (\w+)` \| (.*?) \|", FORMATS.read_text()))
-        return [] if told == reference.HELP else [f"wanted {reference.HELP}, got {told}"]
+        words = dict(tables.rows_of("crate_words.txt"))
+        uses = tables.rows_of_crates()
+        why = [f"{it} has no words in docs/tables/crate_words.txt" for it in uses if not tables.is_for_tests(it) and it not in words]
+        why += [f"docs/tables/crate_words.txt has {it}, which is no crate" for it in words if it not in uses]
+        return why + [f"{text!r} is too long for the box of {it}" for it, text in words.items()
+                      if len(text) > self.LONGEST or len(re.findall(r"\w+", text)) > self.MOST]
 
 
 def part(text, heading):
@@ -340,7 +376,7 @@ def part(text, heading):
 
 
 def cases():
-    yield from (Kit(), Commands(), Glossary(), Generated(), Whole(), Short(), Plain(), Guided(), Carried(), Forms())
+    yield from (Kit(), Glossary(), Generated(), Whole(), Pictured(), Short(), Plain(), Guided(), Carried(), Forms(), Exercised())
     folders = [TOP, TOP / "docs", TOP / "docs" / "tables", TOP / "examples", TOP / "tests", TOP / "bench",
                *(TOP / "crates").glob("*")]
     for folder in folders:

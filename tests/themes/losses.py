@@ -143,8 +143,8 @@ def of_silence():
                  "end silent G since=2000000 for=7500000", total_goose(frames=1, silent=1))
     yield worked("silence up to the last event", [*pairs((0, 1, 0)), 1999999], total_goose(frames=1))
     yield worked("a time that goes back counts as the greatest so far", pairs((SECOND, 1, 0)) + [2500000] + pairs((5, 1, 1), (4400000, 1, 2)),
-                 total_goose(frames=3, longest=1900000))
-    yield worked("a frame with an error says what time it is", [*pairs((0, 1, 0)), (2 * SECOND, b"\0"), *pairs((1, 1, 1))],
+                 "4 time-back by=2499995", total_goose(frames=3, longest=1900000))
+    yield worked("a frame with an error says what time it is", [*pairs((0, 1, 0)), (2 * SECOND, b"\0"), *pairs((1, 1, 1))], "4 time-back by=1999999",
                  "4 silent G since=2000000 for=0", total_goose(frames=2, silent=1, longest=2 * SECOND))
     yield Case("a list of milliseconds", ["losses"], listed(state(1, 0)) + b"C 2001\n", text(
         [f"end silent {G} since=2000000 for=1000", total_goose(frames=1, silent=1)]), 1)
@@ -235,17 +235,22 @@ def of_streams():
                  "4 sample-late S cnt=3999", total_sv(samples=4, missing=1, late=1, outages=1, longest=1))
     yield worked("half a period at one time: of two as near, the greater", counts((0, 0), (0, 2000)), "3 samples-missing S from=1 missing=1999",
                  total_sv(samples=2, missing=1999, outages=1, longest=1999))
-    yield worked("half a period and one more at one time", counts((0, 0), (0, 2001)), "3 sample-late S cnt=2001", total_sv(samples=2, late=1))
+    yield worked("half a period and one more at one time", counts((0, 0), (SECOND, 0), (SECOND, 2001)), "3 samples-missing S from=1 missing=3999",
+                 "4 sample-late S cnt=2001", total_sv(samples=3, missing=3999, late=1, outages=1, longest=3999))
     yield worked("a clock that jumps on by half a second", counts((0, 0), (500250, 1), (500500, 2)), "3 samples-missing S from=1 missing=4000",
                  total_sv(samples=3, missing=4000, outages=1, longest=4000))
     yield worked("a clock that jumps on by less", counts((0, 0), (500249, 1), (500499, 2)), total_sv(samples=3))
-    yield worked("a time that goes back, before a sample,", [SECOND, *counts((0, 0), (250, 1), (SECOND + 250, 2))], total_sv(samples=3))
+    yield worked("a time that goes back, before a sample,", [SECOND, *counts((0, 0), (250, 1), (SECOND + 250, 2))], "3 time-back by=1000000",
+                 total_sv(samples=3))
     yield worked("the frame of a sender says what time it is", [*counts((0, 0)), (SECOND, state(1, 0)), *counts((250, 1))],
                  "4 samples-missing S from=1 missing=4000", total_sv(samples=2, missing=4000, outages=1, longest=4000), total_goose(frames=1))
     for at, silent in ((999999, []), (SECOND, ["end silent S since=7 for=1000000"]), (SECOND + 1, ["end silent S since=7 for=1000001"])):
         yield worked(f"a stream that ends {at} before the end", [*counts((7, 0)), 7 + at], *silent, total_sv(samples=1))
-    yield worked("a late sample and one out of range end no silence", [*counts((0, 5), (1, 4), (600000, 4000)), SECOND], "3 sample-late S cnt=4",
-                 "4 count-out-of-range S cnt=4000", "end silent S since=0 for=1000000", total_sv(samples=3, late=1, out_of_range=1))
+    yield worked("a late sample and one out of range end no silence", [*counts((0, 3), (500, 5), (501, 4), (600000, 4000)), SECOND + 500],
+                 "3 samples-missing S from=4 missing=1", "4 sample-late S cnt=4", "5 count-out-of-range S cnt=4000",
+                 "end silent S since=500 for=1000000", total_sv(samples=4, missing=1, late=1, out_of_range=1, outages=1, longest=1))
+    yield worked("one from before the first sample ends none", [*counts((0, 5), (1, 4)), SECOND], "end silent S since=0 for=1000000",
+                 total_sv(samples=2))
     yield worked("a stream whose counts are all out of range", [*counts((0, 4000), (5, 65535)), 9 * SECOND], "2 count-out-of-range S cnt=4000",
                  "3 count-out-of-range S cnt=65535", total_sv(samples=2, out_of_range=2))
     yield worked("a count out of range changes nothing", counts((0, 4000), (250, 3999), (500, 65535), (500, 0)), "2 count-out-of-range S cnt=4000",
@@ -261,11 +266,54 @@ def of_copies():
     frame = samples(100, 101)
     yield worked("two samples a frame, each frame twice", [(0, frame), (12, frame)], "3 sample-repeated S cnt=100", "3 sample-repeated S cnt=101",
                  total_sv(samples=4, repeated=2))
-    yield worked("the first is repeated, the one before it is late", counts((0, 7), (250, 8), (260, 7), (270, 6)), "4 sample-repeated S cnt=7",
-                 "5 sample-late S cnt=6", total_sv(samples=4, late=1, repeated=1))
+    yield worked("the first is repeated, and of the one before it nothing is said", counts((0, 7), (250, 8), (260, 7), (270, 6)),
+                 "4 sample-repeated S cnt=7", total_sv(samples=4, repeated=1))
     yield worked("behind a loss, copies of what came before it are late", counts((0, 0), (250, 1), (750, 3), (760, 1), (770, 2), (780, 3)),
                  "4 samples-missing S from=2 missing=1", "5 sample-late S cnt=1", "6 sample-late S cnt=2", "7 sample-repeated S cnt=3",
                  total_sv(samples=6, missing=1, late=2, repeated=1, outages=1, longest=1))
+
+
+def of_first():
+    """Samples from before the first one of their stream, as where a recording begins with the later copy of two."""
+    yield worked("the later copy comes first", counts((0, 100), (2, 98), (250, 101), (252, 99), (500, 102), (502, 100)),
+                 "7 sample-repeated S cnt=100", total_sv(samples=6, repeated=1))
+    yield worked("behind a loss too", counts((0, 100), (500, 102), (510, 99), (520, 100), (530, 101)), "3 samples-missing S from=101 missing=1",
+                 "5 sample-late S cnt=100", "6 sample-late S cnt=101", total_sv(samples=5, missing=1, late=2, outages=1, longest=1))
+    gone = counts((0, 0), (500000, 1500), (500250, 1501), (500260, 3999), (500270, 0))
+    yield worked("it is known over a loss and the run behind it how far the first one is", gone, "3 samples-missing S from=1 missing=1499",
+                 "6 sample-late S cnt=0", total_sv(samples=5, missing=1499, late=1, outages=1, longest=1499))
+    yield worked("counts out of range before the first one are no samples", counts((0, 4000), (0, 5), (0, 4)), "2 count-out-of-range S cnt=4000",
+                 total_sv(samples=3, out_of_range=1))
+    yield worked("how it is synchronised is told", [(0, samples(100)), (1, samples(99, synch=1)), (250, samples(101))], "3 synch S from=2 to=1",
+                 "4 synch S from=1 to=2", total_sv(samples=3))
+
+
+def of_times():
+    ten = 10 * SECOND
+    yield worked("less than a second back, and a second", [ten, ten - 999999, ten - SECOND], "4 time-back by=1000000", asked=["losses"])
+    yield worked("several that are back are told once, and the next one anew", [ten, SECOND, 2 * SECOND, 9000001, 3 * SECOND, ten, ten + 1, 0],
+                 "3 time-back by=9000000", "6 time-back by=7000000", "9 time-back by=10000001", asked=["losses"])
+    yield worked("those that are back do not lower the greatest", [ten, SECOND, 2 * SECOND, SECOND, 9 * SECOND, 9000001, 9 * SECOND],
+                 "3 time-back by=9000000", "8 time-back by=1000000", asked=["losses"])
+    yield worked("the first time, however small, and one that stands still", [0, 0, 5, 5], asked=["losses"])
+    yield worked("the longest way", [10**18 - 1, 0], "3 time-back by=999999999999999999", asked=["losses"])
+    yield worked("events of each sort", [b"M 9000000 on\n", 1, 9 * SECOND, (1, b"\0"), (9 * SECOND, b"\0"), b"M 1 off\n"],
+                 "3 time-back by=8999999", "5 time-back by=8999999", "7 time-back by=8999999", asked=["losses"])
+    yield worked("before what else is told", [*pairs((5 * SECOND, 1, 0)), 8 * SECOND, *pairs((6 * SECOND, 1, 2))], "4 time-back by=2000000",
+                 "4 silent G since=7000000 for=1000000", "4 frames-missing G st=1 from=1 to=1",
+                 total_goose(frames=2, frames_missing=1, silent=1, longest=3 * SECOND))
+    ahead = pairs((0, 1, 0), (7200 * SECOND, 1, 1), (2 * SECOND, 1, 2))
+    yield worked("one time two hours ahead", ahead, "3 silent G since=2000000 for=7198000000", "4 time-back by=7198000000",
+                 total_goose(frames=3, silent=1, longest=7200 * SECOND))
+    capture = [packet(9 * SECOND, ARP), packet(1, ARP), packet(9 * SECOND, state(1, 0)), packet(2, b"\0", which=1)]
+    yield Case("a frame that is passed over, and a packet not of Ethernet", ["losses", SKIP, CAPTURE],
+               section() + interface() + interface(link=113) + b"".join(capture),
+               text(["2 time-back by=8999999", "4 time-back by=8999998", total_goose(frames=1)]), 1)
+    yield Case("behind a date", ["losses", TIME], of(ten, 1), b"1970-01-01T00:00:00.000001Z 3 time-back by=9999999\n", 1)
+    yield Case("as an object", ["losses", JSON], of(ten, 1), text(
+        ['{"line":3,"microseconds":1,"time":"1970-01-01T00:00:00.000001Z","kind":"time-back","by":9999999}']), 1)
+    yield Case("an error comes behind it", ["losses"], of(ten, 1) + b"X\n", b"3 time-back by=9999999\n4 list LineForm\n", 3,
+               [b"goose losses: line 4: LineForm: "])
 
 
 def of_frames():
@@ -283,8 +331,9 @@ def of_frames():
                  total_sv(samples=5, missing=2, repeated=1, out_of_range=1, outages=1, longest=2))
     yield worked("nothing but that is no loss", [(0, samples(1)), (250, samples(2, synch=1)), (260, samples(2, synch=255))], "3 synch S from=2 to=1",
                  "4 sample-repeated S cnt=2", "4 synch S from=1 to=255", total_sv(samples=3, repeated=1))
-    yield worked("without a period samples are counted, and nothing more", [(0, samples(100)), (SECOND, samples(7, 4000, synch=1)), 99 * SECOND],
-                 f"total sv {S} samples=3", asked=["losses"])
+    yield worked("without a period samples are counted, and it is told how they are synchronised",
+                 [(0, samples(100)), (SECOND, samples(7, 4000, synch=1)), 99 * SECOND], "3 synch S from=2 to=1", f"total sv {S} samples=3",
+                 asked=["losses"])
     least = counts((0, 0), (500000, 1), (1000000, 0), (1500000, 0), (2000000, 0))
     yield worked("the least period", least, "5 samples-missing S from=1 missing=1", "6 samples-missing S from=1 missing=1",
                  total_sv(samples=5, missing=2, outages=2, longest=1), asked=["losses", "--period", "2"])
@@ -383,6 +432,36 @@ def as_objects():
         f'{{"kind":"total-sv",{whose},"samples":2}}']))
 
 
+# ---- Streams that are not judged ---------------------------------------------
+
+
+class Says(Case):
+    """Standard error has these lines and no others."""
+
+    def why_wrong(self, program):
+        _, complained, _ = self.run(program)
+        return super().why_wrong(program) + ([] if complained == b"".join(self.stderr) else [f"standard error has {complained!r}"])
+
+
+def unjudged():
+    def of_streams_named(*names):
+        given = [(0, samples(1, sv_id=name, source=at)) for at, name in enumerate(names)]
+        totals = [f'total sv appid=4000 source=0200000000{at:02x} id="{name.decode()}" samples=1' for at, name in enumerate(names)]
+        return of(*given), text(totals), 0
+
+    said = b"goose losses: not judged: %s have no period (%s): give --period N\n"
+    yield Says("a stream without a period is named", ["losses"], *of_streams_named(b"MU01"),
+               [b"goose losses: not judged: 1 stream has no period (MU01): give --period N\n"])
+    for names, many, named in (((b"MU01", b"MU02"), b"2 streams", b"MU01, MU02"), ((b"A", b"B", b"A", b"B"), b"4 streams", b"A, B"),
+                               ((b"A", b"B", b"C", b"D", b"A"), b"5 streams", b"A, B, C, D"),
+                               ((b"A", b"B", b"C", b"D", b"E", b"F"), b"6 streams", b"A, B, C, D, .."), ((b"", b"S"), b"2 streams", b", S")):
+        yield Says(f"streams without a period are named: {named.decode()}", ["losses"], *of_streams_named(*names), [said % (many, named)])
+    yield Says("streams that are judged are not named", ASKED, of((0, samples(1))), text([total_sv(samples=1)]))
+    yield Says("control blocks alone are not named", ["losses"], of(*pairs((0, 1, 0))), text([total_goose(frames=1)]))
+    yield Case("they are named before the error of an input", ["losses"], of((0, samples(1))) + b"X\n", b"3 list LineForm\n", 3,
+               [b"goose losses: not judged: 1 stream has no period (S): give --period N\ngoose losses: line 3: LineForm: "])
+
+
 # ---- By chance ---------------------------------------------------------------
 
 
@@ -390,7 +469,7 @@ def some_list(chance, period, count):
     """A list of few senders and streams, whose numbers mostly go on, with errors, clocks and modes; times mostly rise."""
     moment, known, lines = chance.choice([0, 10**15]), {}, [b"V2\n"]
     for _ in range(count):
-        moment = max(0, moment + chance.choice([0, 1, 250, 250, 250, 500000, 600250, 1000000, 3000000, -1000]))
+        moment = max(0, moment + chance.choice([0, 1, 250, 250, 250, 500000, 600250, 1000000, 3000000, -1000, -1250000]))
         sort = chance.randrange(16)
         if sort < 7:
             lines.append(line(moment, some_frame(chance, known)))
@@ -448,5 +527,5 @@ def words():
 
 
 def cases():
-    yield from (*of_senders(), *of_silence(), *of_links(), *of_names(), *of_streams(), *of_copies(), *of_frames(), *of_inputs(), *dated(), *as_objects(),
-                *by_chance(), *words())
+    yield from (*of_senders(), *of_silence(), *of_links(), *of_names(), *of_streams(), *of_copies(), *of_first(), *of_times(),
+                *of_frames(), *of_inputs(), *dated(), *as_objects(), *unjudged(), *by_chance(), *words())

@@ -177,11 +177,12 @@ class Counted:
     """What is to be said of the samples of a stream, by their true numbers."""
 
     def __init__(self, period):
-        self.period, self.lines, self.newest, self.one_by_one, self.come = period, [], None, 0, set()
+        self.period, self.lines, self.first, self.newest, self.one_by_one, self.come = period, [], None, None, 0, set()
         self.counts, self.longest, self.moment = collections.Counter(), 0, None
 
     def count(self, number, moment, sample):
         self.counts["samples"] += 1
+        self.first = sample if self.first is None else self.first
         more = 1 if self.newest is None else sample - self.newest
         if more > 1:
             self.lines.append(f"{number} samples-missing {S} from={(self.newest + 1) % self.period} missing={more - 1}")
@@ -189,8 +190,8 @@ class Counted:
             self.longest, self.one_by_one = max(self.longest, more - 1), 0
         if more > 0:
             self.newest, self.moment, self.one_by_one = sample, moment, self.one_by_one + 1
-        else:
-            # A sample that came one by one with the newest is there twice.
+        elif sample >= self.first:
+            # A sample that came one by one with the newest is there twice. Of one from before the first nothing is known.
             word = "repeated" if -more < self.one_by_one else "late"
             assert word == "late" or sample in self.come
             self.counts[word] += 1

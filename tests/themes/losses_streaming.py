@@ -50,7 +50,7 @@ def failing():
     yield Full("a line on a full disk", ASKED, lost, None, 4, FAULT)
     yield Full("a total on a full disk", ASKED, of(*pairs((0, 1, 0))), None, 4, FAULT)
     yield Full("nothing on a full disk", ASKED, b"", None)
-    yield Unread("losses to nobody", ASKED, lost, None, 4, FAULT)
+    yield Unread("losses to nobody", ASKED, lost)
     yield TriedOnce("losses tries no failed write again", ASKED, lost)
     yield TriedOnce("losses tries no failed total again", ASKED, of(*pairs((0, 1, 0))))
     yield GoesAway("a reader that goes away", ASKED, lost, line(1, state(1, 9)))

@@ -1,5 +1,5 @@
-"""The manual page: its form, its examples, and that it, docs/FORMATS.md and the program have the same commands, exit
-statuses and names of errors."""
+"""The manual page: its form, its examples, and that it, docs/FORMATS.md and the program have the same exit statuses and names
+of errors. The theme `commands` has its commands and options."""
 import pathlib
 import re
 import shlex
@@ -7,7 +7,6 @@ import shutil
 import subprocess
 
 from helpers.harness import SECONDS, Skipped
-from oracles import reference
 
 TOP = pathlib.Path(__file__).resolve().parent.parent.parent
 PAGE = TOP / "docs" / "goose.1"
@@ -45,24 +44,6 @@ class Ran:
         why = [f"ended with status {ran.returncode}"] if ran.returncode > 1 else []
         why += [f"complained: {ran.stderr!r}"] if ran.stderr else []
         return why + ([] if ran.stdout else ["wrote nothing"])
-
-
-class Commands:
-    name = "docs/goose.1 has each command"
-
-    def why_wrong(self, _program):
-        commands = set(re.findall(r"(?m)^\.It Cm (\w+)", PAGE.read_text()))
-        return [] if commands == set(reference.HELP) else [f"commands {sorted(commands)}"]
-
-
-class Options:
-    name = "docs/goose.1 and docs/FORMATS.md have each option, and what its help says"
-
-    def why_wrong(self, _program):
-        page = re.findall(r"(?m)^\.It Fl -([\w-]+)$", PAGE.read_text())
-        why = [f"docs/goose.1 has no {option}" for option in reference.OPTIONS if option[2:] not in page]
-        told = dict(re.findall(r"(?m)^\| `(--[\w-]+)` \| (.*?) \|", part(FORMATS.read_text(), "## Commands")))
-        return why + ([] if told == reference.OPTIONS else [f"docs/FORMATS.md has {told}"])
 
 
 class Statuses:
@@ -106,7 +87,7 @@ def examples():
 
 
 def cases():
-    yield from (Linted(), Commands(), Options(), Statuses())
+    yield from (Linted(), Statuses())
     for heading, where in NAMES.items():
         yield Named(heading, *where)
     for command in examples():

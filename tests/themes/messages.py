@@ -5,14 +5,11 @@ import contextlib
 import os
 import pathlib
 import re
-import select
-import subprocess
-import tty
 
 from helpers.capture_parts import custom, header, interface, packet, record, section
 from helpers.captured import ASKED, asking, capturing
 from helpers.frames import WORKED, put
-from helpers.harness import SECONDS, Case, Pieces, clipped, cut, descriptor, listed, run
+from helpers.harness import Case, Pieces, clipped, cut, descriptor, listed, run
 from themes.devices import CHANGE, SCRIPT, WORDS, words
 
 TOP = pathlib.Path(__file__).resolve().parent.parent.parent
@@ -429,26 +426,6 @@ def unseen():
     yield NeverSeen("very many blocks", many, [], [f"block {at} {of} {many[at]}" for at in range(16)] + ["4 more were never seen"])
 
 
-class Awaits:
-    """A terminal as standard input: standard error says what is awaited before anything is read, and Ctrl-D ends it."""
-
-    def __init__(self, asked, what):
-        self.name, self.asked, self.what = f"{' '.join(asked)} on a terminal", asked, what
-
-    def why_wrong(self, program):
-        near, far = os.openpty()
-        started = subprocess.Popen([*program, *self.asked], stdin=far, stdout=subprocess.PIPE, stderr=subprocess.PIPE)
-        os.close(far)
-        with os.fdopen(near, "wb", buffering=0) as terminal, started.stdout, started.stderr:
-            is_told = bool(select.select([started.stderr], [], [], SECONDS / 4)[0])
-            told = os.read(started.stderr.fileno(), 400) if is_told else b""
-            terminal.write(b"\4")
-            wrote, status = started.stdout.read(), started.wait(timeout=SECONDS)
-        wanted = f"goose {self.asked[0]}: waiting for a {self.what} on standard input (did you forget `< FILE`?)\n".encode()
-        why = [] if told == wanted else [f"told {told!r}, and not {wanted!r}"]
-        return why + ([] if status in (0, 3) else [f"ended with status {status}, wrote {wrote!r}"])
-
-
 class WrongField:
     """A text that is no control block: standard error says which field is wrong, what it is and what it must be."""
 
@@ -493,12 +470,8 @@ def cases():
     frames = listed(WORKED, put(WORKED, at66=1))
     for command in ("show", "check", "rewrite", "blocks", *WORDS):
         yield Quiet(f"{command} that ends well says nothing", words(command), frames)
-        yield Awaits(words(command), "list")
     for command in ASKED:
         octets = header() + record(1, 2, WORKED) + record(1, 2, put(WORKED, at66=1)) + record(3, 4, b"")
         yield Quiet(f"{command} --capture that ends well says nothing", capturing(command), octets)
-        yield Awaits(capturing(command), "capture")
     yield Quiet("publish that ends well says nothing", ["publish"], SCRIPT + CHANGE)
     yield Quiet("import that ends well says nothing", ["import"], header() + record(1, 2, WORKED))
-    yield Awaits(["publish"], "script")
-    yield Awaits(["import"], "capture")

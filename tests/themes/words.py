@@ -9,7 +9,7 @@ import tempfile
 from helpers.capture_parts import header, record
 from helpers.frames import WORKED
 from helpers.harness import SECONDS, Case, clipped, listed
-from oracles.reference import ABOUT, COMMANDS, HELP, OPTIONS, TAKES, VERSION
+from oracles.reference import ABOUT, HELP, OPTIONS, TAKES, VERSION
 
 TOP = pathlib.Path(__file__).resolve().parent.parent.parent
 # What help says of the exit statuses above 1.
@@ -37,11 +37,11 @@ OWN_WORDS = {
 }
 # What would have been right, by what the message of the parser says: it stands behind that, or that says it itself.
 RIGHT = {
-    b"unrecognized subcommand": b"\nThe commands are show, check, rewrite, blocks, replay, publish, watch, losses and import; goose --help says what "
-                                b"each does. A page of a capture: goose-report FILE, in a checkout tools/report FILE\n",
+    b"unrecognized subcommand": f"\nThe commands are {' and '.join(', '.join(HELP).rsplit(', ', 1))}; goose --help says what each does. "
+                                "A page of a capture: goose-report FILE, in a checkout tools/report FILE\n".encode(),
     b"unexpected argument": b"\nA list, script or capture is read from standard input: goose COMMAND < FILE; ",
     b"invalid value": b"\nN is a whole number from 2 to 65536: ",
-    b"requires a subcommand": b"\n  [subcommands: show, check, rewrite, blocks, replay, publish, watch, losses, import]\n",
+    b"requires a subcommand": f"\n  [subcommands: {', '.join(HELP)}]\n".encode(),
     b"each argument": b" must be text in UTF-8, ",
     b"required arguments were not provided": b"\nUsage: goose ",
     b"a value is required": b" but none was supplied\n",
@@ -181,7 +181,7 @@ def refusals():
         (["-x"], b"'-x'"), ([b"sh\xffow"], b"UTF-8"), (["show", b"\xff"], b"UTF-8"),
     ):
         yield Refuses(words, named)
-    for name in [*COMMANDS, "blocks", "publish", "losses", "import"]:
+    for name in (it for it in HELP if "<" not in TAKES.get(it, "")):
         for words, named in (
             ([name, "more"], b"'more'"), ([name, name], f"'{name}'".encode()), ([name, "--nothing"], b"'--nothing'"),
             ([name, "--version"], b"'--version'"), ([name, "--", "more"], b"'more'"), (["--", name], f"'{name}'".encode()),
@@ -211,7 +211,7 @@ def refusals():
     ):
         yield Refuses(words, named)
     for words, named in (
-        *(([name, option], f"'{option}'".encode()) for name in ("rewrite", "publish", "import") for option in OPTIONS),
+        *(([name, option], f"'{option}'".encode()) for name in HELP if name not in TAKES for option in OPTIONS),
         *(([option, "show"], f"'{option}'".encode()) for option in OPTIONS), (["show", "--cap"], b"'--cap'"),
         (["show", "--skip_other"], b"'--skip_other'"), (["check", "--", "--capture"], b"'--capture'"),
         (["blocks", "--capture", "--capture"], b"'--capture'"), (["show", "--skip-other", "--capture", "--skip-other"], b"'--skip-other'"),

@@ -68,8 +68,37 @@ read_with n total size (Ok x) b e =
     (ap (λ (q : Block × ℕ). Ok q.0) p, ap (λ (q : Block × ℕ). q.1) p)
 read_with n total size (Err why) b e = cc
 
-good_is : (least total : ℕ) → is_bad_length least total ≡ false → (least ≤ total) × (total % 4 ≡ 0) × (total ≤ 16777216)
+pub good_is : (least total : ℕ) → is_bad_length least total ≡ false → (least ≤ total) × (total % 4 ≡ 0) × (total ≤ 16777216)
 good_is least total e = (grind (arith, nat_tests, e), grind (arith, nat_tests, e), grind (arith, nat_tests, e))
+
+-- octets that are one block at least, by its lengths
+pub whole_block : (order : OctetOrder) (total : ℕ) (o : List ℕ) → 12 ≤ total → total % 4 ≡ 0 → total ≤ 16777216 → total ≤ length o → number_at order 4 o 4 ≡ total → number_at order 4 o (total - 4) ≡ total →
+    IsBlock order (take (total - 12) (drop 8 o)) (take total o)
+whole_block order total o room fours most whole first same =
+    let head = take 8 o in
+    let body = take (total - 12) (drop 8 o) in
+    let tail = take 4 (drop (total - 4) o) in
+    let head_size : length head ≡ 8 = length-take-le 8 o (omega (arith, room, whole)) in
+    let tail_size : length tail ≡ 4 = length-take-le 4 (drop (total - 4) o) (simp length-drop (omega (arith, room, whole))) in
+    let all : length (take total o) ≡ total = length-take-le total o whole in
+    let split : (8 + (total - 12)) + 4 ≡ total = omega (arith, room) in
+    let at : 8 + (total - 12) ≡ total - 4 = omega (arith, room) in
+    let parts : take total o ≡ (head ++ body) ++ tail =
+    ap (λ (k : ℕ). take k o) (sym split) ∙ take-add (8 + (total - 12)) 4 o ∙ ap (λ l. l ++ take 4 (drop (8 + (total - 12)) o)) (take-add 8 (total - 12) o) ∙ ap (λ (k : ℕ). (head ++ body) ++ take 4 (drop k o)) at in
+    let end : number_at order 4 tail 0 ≡ number_at order 4 o (total - 4) =
+    number_taken order 4 0 4 (drop (total - 4) o) (omega arith) (simp length-drop (omega (arith, room, whole)))
+    ∙ sym (ap (λ l. number_at order 4 l (total - 4)) (sym (take-append-drop (total - 4) o)) ∙ number_behind order 4 (take (total - 4) o) (drop (total - 4) o) (total - 4) 0 (let k = length-take-le (total - 4) o (omega (arith, whole)) in omega (arith, k))) in
+    record {
+      head = head;
+      tail = tail;
+      parts = parts;
+      head_size = head_size;
+      tail_size = tail_size;
+      tells = number_taken order 4 4 8 o (omega arith) (omega (arith, room, whole)) ∙ first ∙ sym all;
+      tells_again = end ∙ same ∙ sym all;
+      in_fours = ap (λ (k : ℕ). k % 4) all ∙ fours;
+      at_most = omega (arith, all, most);
+    }
 
 -- what is read as a block is the octets of one, and what its body says
 pub read_block : (z : InputEnd) (n : ℕ) (order : OctetOrder) (least : ℕ) (o : List ℕ) (said : List ℕ → Result Block CaptureCause) (b : Block) (size : ℕ) → 12 ≤ least → block_in z n order least o said ≡ Ok (b, size) →
@@ -83,36 +112,13 @@ read_block z n order least o said b size room e =
     let good = good_is least total first.0 in
     let whole : total ≤ length o = let f = second.0 in grind (arith, nat_tests, f) in
     let same : number_at order 4 o (total - 4) ≡ total = let f = third.0 in grind (arith, nat_tests, f) in
-    let head = take 8 o in
-    let body = take (total - 12) (drop 8 o) in
-    let tail = take 4 (drop (total - 4) o) in
-    let head_size : length head ≡ 8 = length-take-le 8 o (omega (arith, room, good.0, whole)) in
-    let tail_size : length tail ≡ 4 = length-take-le 4 (drop (total - 4) o) (simp length-drop (omega (arith, room, good.0, whole))) in
-    let all : length (take total o) ≡ total = length-take-le total o whole in
-    let split : (8 + (total - 12)) + 4 ≡ total = omega (arith, room, good.0) in
-    let at : 8 + (total - 12) ≡ total - 4 = omega (arith, room, good.0) in
-    let parts : take total o ≡ (head ++ body) ++ tail =
-    ap (λ (k : ℕ). take k o) (sym split) ∙ take-add (8 + (total - 12)) 4 o ∙ ap (λ l. l ++ take 4 (drop (8 + (total - 12)) o)) (take-add 8 (total - 12) o) ∙ ap (λ (k : ℕ). (head ++ body) ++ take 4 (drop k o)) at in
-    let end : number_at order 4 tail 0 ≡ number_at order 4 o (total - 4) =
-    number_taken order 4 0 4 (drop (total - 4) o) (omega arith) (simp length-drop (omega (arith, room, good.0, whole)))
-    ∙ sym (ap (λ l. number_at order 4 l (total - 4)) (sym (take-append-drop (total - 4) o)) ∙ number_behind order 4 (take (total - 4) o) (drop (total - 4) o) (total - 4) 0 (let k = length-take-le (total - 4) o (omega (arith, whole)) in omega (arith, k))) in
-    let block : IsBlock order body (take total o) = record {
-      head = head;
-      tail = tail;
-      parts = parts;
-      head_size = head_size;
-      tail_size = tail_size;
-      tells = number_taken order 4 4 8 o (omega arith) (omega (arith, room, good.0, whole)) ∙ sym all;
-      tells_again = end ∙ same ∙ sym all;
-      in_fours = ap (λ (k : ℕ). k % 4) all ∙ good.1;
-      at_most = omega (arith, all, good.2);
-    } in
-    rw (← told.1) (body, block, good.0, whole, told.0)
+    let block = whole_block order total o (omega (arith, room, good.0)) good.1 good.2 whole refl same in
+    rw (← told.1) (take (total - 12) (drop 8 o), block, good.0, whole, told.0)
 
 -- ---- section headers
 
 -- the byte-order magic stands in the front
-magic_front : (o more : List ℕ) → 12 ≤ length o → section_order (o ++ more) ≡ section_order o
+pub magic_front : (o more : List ℕ) → 12 ≤ length o → section_order (o ++ more) ≡ section_order o
 magic_front o more h =
     let big : number_at BigEndian 4 (o ++ more) 8 ≡ number_at BigEndian 4 o 8 = number_front BigEndian 4 o more 8 (omega (arith, h)) in
     let little : number_at LittleEndian 4 (o ++ more) 8 ≡ number_at LittleEndian 4 o 8 = number_front LittleEndian 4 o more 8 (omega (arith, h)) in

@@ -11,7 +11,7 @@ use Rattle.list_core.proofs.Readers.{OnlyOpen-append, OnlyOpen-none}
 use Rattle.capture_core.specs.Capture.{cut}
 use Rattle.capture_core.specs.Asked.{OnlyWhile}
 use Rattle.capture_core.specs.computed.Filling.{IsShort, IsWanted}
-use Rattle.capture_core.specs.computed.OneRead.{Front, GivesFront, HasBegun, IsKept, IsKeptWhole, KeepsFront, ReadsFront, ReadsToKeep, StandsSo, Told}
+use Rattle.capture_core.specs.computed.OneRead.{Front, GivesFront, IsKept, IsKeptWhole, KeepsFront, ReadsFront, ReadsToKeep, StandsSo, Told}
 use Rattle.capture_core.specs.declared.capture_fault.CaptureFault.{CaptureFault}
 use Rattle.capture_core.proofs.Records.{gave_nothing, nothing_follows}
 

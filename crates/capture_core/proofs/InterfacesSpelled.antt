@@ -46,7 +46,7 @@ module _ (order : OctetOrder) (code : ℕ) (value : List ℕ) (i : Interface) wh
   says_by false false e f h = rw (e, f) refl
 
   -- an option whose value has its length
-  option_says : HasItsLength (code, value) → Some (after_option order code value i) ≡ with_option order code value i
+  pub option_says : HasItsLength (code, value) → Some (after_option order code value i) ≡ with_option order code value i
   option_says h = says_by (eqb code 9) (eqb code 14) refl refl h
 
   some_if : (b : Bool) (x m : Interface) → (if b then Some x else None) ≡ Some m → (b ≡ true) × (m ≡ x)
@@ -72,7 +72,7 @@ module _ (order : OctetOrder) (code : ℕ) (value : List ℕ) (i : Interface) wh
       ((λ c. absurd (let k = eqb_tells code 9 in grind (arith, nat_tests, e, c)), λ c. absurd (grind (arith, nat_tests, f, c))), rw (e, f) is)
 
   -- an option that says something has its length
-  option_said : (m : Interface) → with_option order code value i ≡ Some m → HasItsLength (code, value) × (m ≡ after_option order code value i)
+  pub option_said : (m : Interface) → with_option order code value i ≡ Some m → HasItsLength (code, value) × (m ≡ after_option order code value i)
   option_said m h = said_by m (eqb code 9) (eqb code 14) refl refl h
 
 -- ---- what options say together
@@ -161,7 +161,7 @@ abbrev Options : OctetOrder → List ℕ → Interface → Interface → Type 0
 Options order o j i = (os : List (ℕ × List ℕ)) × AreOptions order os o × All HasItsLength os × (i ≡ after_options order os j)
 
 -- the first option, of this code and size
-first_option : (order : OctetOrder) (o : List ℕ) → 4 ≤ length o → option_size order o ≤ length o → IsOption order (number_at order 2 o 0) (take (number_at order 2 o 2) (drop 4 o)) (take (option_size order o) o)
+pub first_option : (order : OctetOrder) (o : List ℕ) → 4 ≤ length o → option_size order o ≤ length o → IsOption order (number_at order 2 o 0) (take (number_at order 2 o 2) (drop 4 o)) (take (option_size order o) o)
 first_option order o h l =
     let n = number_at order 2 o 2 in
     let head = take 4 o in

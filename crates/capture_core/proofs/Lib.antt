@@ -25,3 +25,12 @@ pub mod InterfacesSpelled
 pub mod PacketsSpelled
 pub mod SectionsSpelled
 pub mod SpelledPackets
+pub mod FaultyHeaders
+pub mod FaultyInterfaces
+pub mod FaultyPackets
+pub mod FaultyBlocks
+pub mod FaultySections
+pub mod FaultyRecords
+pub mod FaultyCaptures
+pub mod AnsweredCaptures
+pub mod WorkedFaults

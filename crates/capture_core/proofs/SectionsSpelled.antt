@@ -116,7 +116,7 @@ module _ (z : InputEnd) (n : ℕ) (s : Settled) where
   packet_type type p body (inr (inr (e, t))) f = omega (arith, e, f)
 
   -- octets that say a block are read as it
-  spelled_first : (b : Block) (o more : List ℕ) → SpellsBlock s b o → first_block z n s (o ++ more) ≡ Ok (b, length o)
+  pub spelled_first : (b : Block) (o more : List ℕ) → SpellsBlock s b o → first_block z n s (o ++ more) ≡ Ok (b, length o)
   spelled_first (begins order) o more (t, h) = spelled_header order o more t h
   spelled_first (describes i) o more (t, few, (body, block, h)) =
       spelled_other (describes i) body o more (λ f. omega (arith, t, f)) block (ap (λ (k : ℕ). body_said s k body) t ∙ interface_told s i body few h)
@@ -131,7 +131,7 @@ module _ (z : InputEnd) (n : ℕ) (s : Settled) where
   spells_by passes body o block h = (h, (body, block))
 
   -- what was read as a block is octets that say it
-  Reads : List ℕ → Block → ℕ → Type 0
+  unfoldable pub Reads : List ℕ → Block → ℕ → Type 0
   Reads o b size = SpellsBlock s b (take size o) × (12 ≤ size) × (size ≤ length o)
 
   type_taken : (o : List ℕ) (size : ℕ) → 12 ≤ size → size ≤ length o → type_of s (take size o) ≡ type_of s o
@@ -152,7 +152,7 @@ module _ (z : InputEnd) (n : ℕ) (s : Settled) where
       let says = body_read s (type_of s o) body b other said in
       (spells_by b body (take size o) block (subst (λ (k : ℕ). SaysBody s k b body) (sym (type_taken o size room l)) says), room, l)
 
-  read_next : (o : List ℕ) (b : Block) (size : ℕ) → next_block z n s o ≡ Ok (b, size) → Reads o b size
+  pub read_next : (o : List ℕ) (b : Block) (size : ℕ) → next_block z n s o ≡ Ok (b, size) → Reads o b size
   read_next [] b size e = cc
   read_next (x ∷ xs) b size e =
       let first = not_refused (ltb (length (x ∷ xs)) 8) (cut z n) _ (b, size) e in
@@ -212,6 +212,12 @@ next_end z n s (x ∷ xs) stop e f = absurd (goes_on (first_block z n s (x ∷ x
 
 -- ---- blocks one behind another
 
+pub spelled_room : (s : Settled) (b : Block) (o : List ℕ) → SpellsBlock s b o → 12 ≤ length o
+spelled_room s (begins order) o (t, h) = omega (arith, h.at_least)
+spelled_room s (describes i) o (t, few, (body, block, h)) = let size = body_size s.order body o block in omega (arith, size)
+spelled_room s (captures p) o (body, block, h) = let size = body_size s.order body o block in omega (arith, size)
+spelled_room s passes o (t, (body, block)) = let size = body_size s.order body o block in omega (arith, size)
+
 pub spelled_blocks : (bs : List Block) (s : Settled) (n most : ℕ) (o : List ℕ) → length bs ≤ most → SpellsBlocks s bs o → packets_of_blocks End s n most o ≡ packets_said n bs
 unfolding packets_of_blocks
 spelled_blocks [] s n zero o h e = rw e refl
@@ -224,14 +230,8 @@ spelled_blocks (b ∷ bs) s n (suc most) o h (front, rest, e, one, others) =
     ∙ ap (λ (r : BlockRead). before_others n r more) (next_some End (n + 1) s front rest (omega (arith, room)) ∙ spelled_first End (n + 1) s b front rest one)
     ∙ ap (λ (l : List ℕ). put_block n b (packets_of_blocks End (settled_after s b) (count_after n b) most l)) (drop_at front rest (length front) refl)
     ∙ ap (put_block n b) (spelled_blocks bs (settled_after s b) (count_after n b) most rest (omega (arith, h)) others)
-  where
-    spelled_room : (s : Settled) (b : Block) (o : List ℕ) → SpellsBlock s b o → 12 ≤ length o
-    spelled_room s (begins order) o (t, h) = omega (arith, h.at_least)
-    spelled_room s (describes i) o (t, few, (body, block, h)) = let size = body_size s.order body o block in omega (arith, size)
-    spelled_room s (captures p) o (body, block, h) = let size = body_size s.order body o block in omega (arith, size)
-    spelled_room s passes o (t, (body, block)) = let size = body_size s.order body o block in omega (arith, size)
 
-stop_same : (n : ℕ) (b : Block) (l : Numbered Packet) → (put_block n b l).stop ≡ l.stop
+pub stop_same : (n : ℕ) (b : Block) (l : Numbered Packet) → (put_block n b l).stop ≡ l.stop
 stop_same n (begins order) l = refl
 stop_same n (describes i) l = refl
 stop_same n (captures p) l = refl

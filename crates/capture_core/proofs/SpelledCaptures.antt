@@ -41,7 +41,7 @@ passed false false false x y w good p q r s = (refl, refl, refl, refl)
 
 module _ (form : CaptureForm) where
   -- the first of records, where there is room for it
-  step_of : (z : InputEnd) (n most : ℕ) (head rest : List ℕ) → length head ≡ 16 →
+  pub step_of : (z : InputEnd) (n most : ℕ) (head rest : List ℕ) → length head ≡ 16 →
       records_of form z n (suc most) (head ++ rest) ≡ read_one form z (n + 1) head rest (records_of form z (n + 1) most (drop (captured_size form head) rest))
   unfolding records_of
   step_of z n most [] rest h = absurd (omega (arith, h))

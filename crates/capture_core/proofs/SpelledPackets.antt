@@ -28,7 +28,7 @@ use Rattle.capture_core.proofs.SpelledCaptures.{Read, no_fault, not_cut, read_sp
 -- ---- the first four octets
 
 -- a magic number of the classic form is in the first four octets
-form_taken : (o : List ℕ) → 4 ≤ length o → form_of (take 4 o) ≡ form_of o
+pub form_taken : (o : List ℕ) → 4 ≤ length o → form_of (take 4 o) ≡ form_of o
 form_taken o h =
     let big : number_at BigEndian 4 (take 4 o) 0 ≡ number_at BigEndian 4 o 0 = number_taken BigEndian 4 0 4 o (omega arith) h in
     let little : number_at LittleEndian 4 (take 4 o) 0 ≡ number_at LittleEndian 4 o 0 = number_taken LittleEndian 4 0 4 o (omega arith) h in
@@ -57,7 +57,7 @@ other_magic a b c d e =
     let nano : eqb (a + 256 * k) 2712812621 ≡ false = let n = no_nanoseconds a k small in grind (arith, nat_tests, n) in
     rw (e, micro, nano) refl
 
-no_form : (o : List ℕ) → 4 ≤ length o → number_at BigEndian 4 o 0 ≡ 0x0a0d0d0a → form_of (take 4 o) ≡ None
+pub no_form : (o : List ℕ) → 4 ≤ length o → number_at BigEndian 4 o 0 ≡ 0x0a0d0d0a → form_of (take 4 o) ≡ None
 no_form [] h e = absurd (omega (arith, h))
 no_form (a ∷ []) h e = absurd (omega (arith, h))
 no_form (a ∷ b ∷ []) h e = absurd (omega (arith, h))

@@ -13,7 +13,7 @@ use Rattle.capture_core.specs.Captured.{captured_packets}
 -- ---- blocks, least significant octet first
 
 -- a section header: its type, 28, the byte-order magic, version 1.0, a length that is not looked at, 28
-abbrev section : List ℕ
+abbrev pub section : List ℕ
 section = 0x0a ∷ 0x0d ∷ 0x0d ∷ 0x0a ∷ 28 ∷ 0 ∷ 0 ∷ 0 ∷ 0x4d ∷ 0x3c ∷ 0x2b ∷ 0x1a ∷ 1 ∷ 0 ∷ 0 ∷ 0 ∷ 255 ∷ 255 ∷ 255 ∷ 255 ∷ 255 ∷ 255 ∷ 255 ∷ 255 ∷ 28 ∷ 0 ∷ 0 ∷ 0 ∷ []
 
 -- the same, most significant octet first
@@ -21,27 +21,27 @@ abbrev big_section : List ℕ
 big_section = 0x0a ∷ 0x0d ∷ 0x0d ∷ 0x0a ∷ 0 ∷ 0 ∷ 0 ∷ 28 ∷ 0x1a ∷ 0x2b ∷ 0x3c ∷ 0x4d ∷ 0 ∷ 1 ∷ 0 ∷ 0 ∷ 0 ∷ 0 ∷ 0 ∷ 0 ∷ 0 ∷ 0 ∷ 0 ∷ 0 ∷ 0 ∷ 0 ∷ 0 ∷ 28 ∷ []
 
 -- an interface of this link type, without options
-abbrev interface : ℕ → List ℕ
+abbrev pub interface : ℕ → List ℕ
 interface link = 1 ∷ 0 ∷ 0 ∷ 0 ∷ 20 ∷ 0 ∷ 0 ∷ 0 ∷ link ∷ 0 ∷ 0 ∷ 0 ∷ 2 ∷ 0 ∷ 0 ∷ 0 ∷ 20 ∷ 0 ∷ 0 ∷ 0 ∷ []
 
 -- one on Ethernet, of which an option (code 9, one octet) says the resolution, and no snapshot length is stated
-abbrev resolved : ℕ → List ℕ
+abbrev pub resolved : ℕ → List ℕ
 resolved r = 1 ∷ 0 ∷ 0 ∷ 0 ∷ 28 ∷ 0 ∷ 0 ∷ 0 ∷ 1 ∷ 0 ∷ 0 ∷ 0 ∷ 0 ∷ 0 ∷ 0 ∷ 0 ∷ 9 ∷ 0 ∷ 1 ∷ 0 ∷ r ∷ 0 ∷ 0 ∷ 0 ∷ 28 ∷ 0 ∷ 0 ∷ 0 ∷ []
 
 -- an enhanced packet of this interface after 5,999 ticks: one octet of nine, and its padding; then this total length
-abbrev packet : ℕ → ℕ → List ℕ
+abbrev pub packet : ℕ → ℕ → List ℕ
 packet i end = 6 ∷ 0 ∷ 0 ∷ 0 ∷ 36 ∷ 0 ∷ 0 ∷ 0 ∷ i ∷ 0 ∷ 0 ∷ 0 ∷ 0 ∷ 0 ∷ 0 ∷ 0 ∷ 0x6f ∷ 0x17 ∷ 0 ∷ 0 ∷ 1 ∷ 0 ∷ 0 ∷ 0 ∷ 9 ∷ 0 ∷ 0 ∷ 0 ∷ 0xaa ∷ 0 ∷ 0 ∷ 0 ∷ end ∷ 0 ∷ 0 ∷ 0 ∷ []
 
 -- a simple packet of three octets on the wire
-abbrev simple : List ℕ
+abbrev pub simple : List ℕ
 simple = 3 ∷ 0 ∷ 0 ∷ 0 ∷ 20 ∷ 0 ∷ 0 ∷ 0 ∷ 3 ∷ 0 ∷ 0 ∷ 0 ∷ 1 ∷ 2 ∷ 3 ∷ 0 ∷ 20 ∷ 0 ∷ 0 ∷ 0 ∷ []
 
 -- a block of another type
-abbrev other : List ℕ
+abbrev pub other : List ℕ
 other = 9 ∷ 0 ∷ 0 ∷ 0 ∷ 16 ∷ 0 ∷ 0 ∷ 0 ∷ 1 ∷ 2 ∷ 3 ∷ 4 ∷ 16 ∷ 0 ∷ 0 ∷ 0 ∷ []
 
 -- the packet of one octet at a moment
-abbrev one : ℕ → ℕ → Packet
+abbrev pub one : ℕ → ℕ → Packet
 one moment link = record { moment = moment; link_type = link; octets = 0xaa ∷ [] }
 
 pub record AreSections : Type 0 where
@@ -107,7 +107,7 @@ are_times = record { binary = refl; fine = refl; finest = refl; hour = refl; bac
 
 -- ---- the classic form, in which a record without octets is a packet too
 
-abbrev classic : List ℕ
+abbrev pub classic : List ℕ
 classic = 0xd4 ∷ 0xc3 ∷ 0xb2 ∷ 0xa1 ∷ 2 ∷ 0 ∷ 4 ∷ 0 ∷ 0 ∷ 0 ∷ 0 ∷ 0 ∷ 0 ∷ 0 ∷ 0 ∷ 0 ∷ 0xff ∷ 0xff ∷ 0 ∷ 0 ∷ 1 ∷ 0 ∷ 0 ∷ 0 ∷ []
 
 pub record AreClassic : Type 0 where

@@ -9,6 +9,7 @@ pub mod Interfaces
 pub mod Blocks
 pub mod Captured
 pub mod SpelledBlocks
+pub mod FirstFault
 pub mod PacketReader
 pub mod computed
 pub mod Laws

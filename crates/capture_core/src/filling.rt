@@ -33,11 +33,14 @@ pub(crate) fn fill<R: Source>(reader: &mut R, into: &mut [u8]) -> Filled
     Filled::Whole
 }
 
-/// How many octets are read over at a time.
+/// How many octets are read over at a time, and how many are few: the padding behind a packet, and most options.
 const READ_OVER: usize = 4096;
 
+const FEW: usize = 16;
+
 // Reads over so many octets, a piece at a time, and answers whether they were there.
-pub(crate) fn skip<R: Source>(reader: &mut R, size: usize) -> bool
+#[inline(never)]
+fn skip_many<R: Source>(reader: &mut R, size: usize) -> bool
     ensures { Passes (R.left reader.old) (R.ending reader.old) size result (R.left reader.new) (R.ending reader.new) }
 {
     let mut piece = [0u8; READ_OVER];
@@ -50,6 +53,20 @@ pub(crate) fn skip<R: Source>(reader: &mut R, size: usize) -> bool
         }
     }
     true
+}
+
+// Reads over so many octets, and answers whether they were there. Few need no piece that is cleared first.
+pub(crate) fn skip<R: Source>(reader: &mut R, size: usize) -> bool
+    ensures { Passes (R.left reader.old) (R.ending reader.old) size result (R.left reader.new) (R.ending reader.new) }
+{
+    if size > FEW {
+        return skip_many(reader, size);
+    }
+    let mut few = [0u8; FEW];
+    match fill(reader, &mut few[..size]) {
+        Filled::Whole => true,
+        Filled::Short(_) => false,
+    }
 }
 
 /// The source has ended before so many octets as are wanted.

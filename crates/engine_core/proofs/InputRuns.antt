@@ -1,109 +1,86 @@
--- What a run over a reader of items leaves of what its input says, by what its last answer says of that.
-use Rattle.std.proofs.Common.{Option, Some, None, Ok, Err, Result, ◌≡◌, ◌⊎◌, ℕ, Bool, List, [], inl, inr, ap, sym, ◌∙◌, refl, subst}
-use Rattle.std.specs.Prelude.{⊤}
-use Rattle.std.specs.Io.KnownBytes.{Appends}
+-- A run over a reader of items as one of the input that it reads, and of what is made of each of its items.
+use Rattle.std.proofs.Common.{Option, Some, None, Ok, Err, ◌≡◌, ℕ, List, [], ◌∷◌, inl, inr, ap, ap₂, sym, ◌∙◌, refl, subst}
+use Rattle.std.proofs.lemmas.List.{map-append}
+use Rattle.list_core.specs.declared.device.InputEnd.{InputEnd}
+use Rattle.list_core.specs.declared.device.InputEnd.TheVariants.{Open}
 use Rattle.list_core.specs.Device.{GivesOctets}
-use Rattle.list_core.specs.Items.{Numbered, put_item, put_items, stops}
-use Rattle.list_core.specs.Lines.{finished, faulty}
-use Rattle.list_core.specs.ReadItems.{AnswerOf}
-use Rattle.engine_core.specs.declared.ending.Ending.{Ending}
-use Rattle.engine_core.specs.declared.stopped.Halt.{Halt}
-use Rattle.engine_core.specs.declared.stopped.Halt.TheVariants as halt
-use Rattle.engine_core.specs.Ending.{ending_by_fault}
-use Rattle.engine_core.specs.EngineText.{Allowed, ItemText, step_text_to}
-use Rattle.engine_core.specs.RunOver.{IsDue, RanOver, Stops, WantsFor, ending_by_halt, fault_by_halt, step_fault}
-use Rattle.engine_core.specs.InputRun.{InputRun, EndsByFault, EndsOnward, IsTextOnward}
+use Rattle.list_core.specs.Items.{Numbered, put_items}
+use Rattle.list_core.specs.ReadItems.{AnswerOf, Gave}
+use Rattle.list_core.proofs.Devices.{Consumes-none, Gives-from_Consumes}
+use Rattle.engine_core.specs.EngineText.{Allowed}
+use Rattle.engine_core.specs.declared.stopped.Stopped.{Stopped}
+use Rattle.engine_core.specs.Input.{GaveThen, Input, IsRead, Reader, TellsNext}
+use Rattle.engine_core.specs.MadeRun.{answer_made, each_made, made, with_each}
+use Rattle.engine_core.specs.RunOver.{Leaves, LeavesSo, RunsOver}
+use Rattle.engine_core.proofs.ReaderRuns.{run_as}
 
--- what an answer says of what the input says onward
-abbrev pub TellsOnward : {X F : Type 0} → AnswerOf X F → Numbered X F → Type 0
-TellsOnward {X = X} {F = F} (Ok (Some e)) l = (others : Numbered X F) × (l ≡ put_item e others)
-TellsOnward (Ok None) l = l ≡ stops finished
-TellsOnward (Err (Some f)) l = l ≡ stops (faulty f)
-TellsOnward (Err None) l = ⊤
+-- octets that were given of an input, of which that is so
+abbrev pub GivenSo : Option (List ℕ) → Option (List ℕ) → (List ℕ → Type 0) → Type 0
+GivenSo old new Is = (given : List ℕ) × GivesOctets old new given × Is given
 
--- What a reader gave and then answered, by what its input says where these octets are given.
-pub record ReadOf {X F : Type 0} (said : List ℕ → Numbered X F) (Keeps : List ℕ → List (ℕ × X) → Type 0) (items : List (ℕ × X)) (answer : AnswerOf X F) (old new : Option (List ℕ)) : Type 0 where
-  pub given : List ℕ
-  pub gives : GivesOctets old new given
-  pub onward : Numbered X F
-  pub says : said given ≡ put_items items onward
-  pub tells : TellsOnward answer onward
-  pub keeps : answer ≡ Err None → Keeps given items
+-- nothing was given
+pub none_given : (left : Option (List ℕ)) → GivesOctets left left []
+none_given left = Gives-from_Consumes left left [] (Consumes-none left)
 
-module _ {X C F : Type 0} (refused : ℕ → C → F) (failed : F → Bool) (t : Allowed X C F) (items : List (ℕ × X)) where
-  -- an item that is refused
-  step_refused : (n : ℕ) (s : Result (List ℕ × Bool) C) (f : F) → Some f ≡ step_fault refused n s → (why : C) × (s ≡ Err why) × (f ≡ refused n why)
-  step_refused n (Ok s) f h = cc
-  step_refused n (Err why) f h = (why, refl, cc)
+-- what a run over a reader leaves, it leaves of the input, if what the reader gave and then answered is read of that
+pub input_run : {I X C F : Type 0} (reader : Reader I X C F) (input : Input X C F) (left : I → Option (List ℕ)) (told : I → InputEnd) (t : Allowed X C F) (start : I) (stopped : Stopped I F) (old new : Option (List ℕ)) → told start ≡ Open →
+    ((items : List (ℕ × X)) (answer : AnswerOf X F) → GaveThen reader start stopped.reader items answer → GivenSo (left start) (left stopped.reader) (λ given. IsRead input (told stopped.reader) given items answer)) →
+    LeavesSo (stopped.reader ≡ start) (GaveThen reader start stopped.reader) input.faults t stopped.ending stopped.fault old new →
+    GivenSo (left start) (left stopped.reader) (λ given. Leaves input t stopped.ending stopped.fault (told stopped.reader) given old new)
+input_run reader input left told t start stopped old new is reads (inl w) =
+    ([], rw w.untouched (none_given (left start)), inl (record { write_fault = w.write_fault; by_none = w.by_none; untouched = (rw w.untouched is, refl); written = w.written }))
+input_run reader input left told t start stopped old new is reads (inr run) =
+    let r = reads run.items run.answer run.read in
+    (r.0, r.1, inr (run_as input.faults stopped.ending stopped.fault old new t run r.2))
 
-  -- a fault by which the text ends
-  by_fault : (answer : AnswerOf X F) (onward : Numbered X F) → TellsOnward answer onward → (f : F) (text : List ℕ) → IsDue refused t items answer text (Some f) → (held new : Option (List ℕ)) → Appends held new text →
-      EndsByFault refused failed t items onward (ending_by_fault failed f) (Some f) held new
-  by_fault (Ok (Some e)) onward h f text due held new w =
-      let s = step_refused e.0 due.written f due.has_fault in
-      record {
-        why = f;
-        is_next = inr (record { item = e; others = h.0; cause = s.0; is_next = h.1; is_refused = subst (λ r. t.of_item items e r) s.1 due.is_allowed; is_fault = s.2 });
-        has_ending = refl;
-        by = refl;
-        told = subst (λ l. Appends held new l) (due.has_text ∙ ap (step_text_to refused t e.0) s.1 ∙ ap t.last (sym s.2)) w;
-      }
-  by_fault (Ok None) onward h f text due held new w = let none = due.1 in cc
-  by_fault (Err (Some g)) onward h f text due held new w =
-      let is = due.1 in
-      let same : g ≡ f = cc in
-      record {
-        why = f;
-        is_next = inl (rw same at h);
-        has_ending = refl;
-        by = refl;
-        told = subst (λ l. Appends held new l) (due.0 ∙ ap t.last same) w;
-      }
-  by_fault (Err None) onward h f text due held new w = absurd due
+-- ---- what is made of each item
 
-  -- what is due for an answer may be written next
-  due_onward : (answer : AnswerOf X F) (onward : Numbered X F) → TellsOnward answer onward → (text : List ℕ) (closing : Option F) → IsDue refused t items answer text closing → IsTextOnward refused t items onward.items onward.stop text
-  due_onward (Ok (Some e)) onward h text closing due = subst (λ (l : Numbered X F). IsTextOnward refused t items l.items l.stop text) (sym h.1) (due.written, due.is_allowed, due.has_text)
-  due_onward (Ok None) onward h text closing due = subst (λ (l : Numbered X F). IsTextOnward refused t items l.items l.stop text) (sym h) due.0
-  due_onward (Err (Some f)) onward h text closing due = subst (λ (l : Numbered X F). IsTextOnward refused t items l.items l.stop text) (sym h) due.0
-  due_onward (Err None) onward h text closing due = absurd due
+module _ {X F : Type 0} (make : X → X) where
+  -- an answer that has an item was made of one
+  made_some : (raw : AnswerOf X F) (e : ℕ × X) → Ok (Some e) ≡ answer_made make raw → (r : ℕ × X) × (raw ≡ Ok (Some r)) × (e ≡ (r.0, make r.1))
+  made_some (Ok (Some r)) e h = (r, refl, cc)
+  made_some (Ok None) e h = cc
+  made_some (Err f) e h = cc
 
-  -- memory is wanted by the input, or for whatever may be written next
-  wanted_onward : (Keeps : List (ℕ × X) → Type 0) (answer : AnswerOf X F) (onward : Numbered X F) → TellsOnward answer onward → (answer ≡ Err None → Keeps items) → WantsFor refused t items answer →
-      Keeps items ⊎ ((text : List ℕ) → IsTextOnward refused t items onward.items onward.stop text → text ≡ [] → ⊥)
-  wanted_onward Keeps answer onward h keeps (inl e) = inl (keeps e)
-  wanted_onward Keeps (Ok (Some e)) onward h keeps (inr some) = inr (λ text next none.
-      let n = subst (λ (l : Numbered X F). IsTextOnward refused t items l.items l.stop text) h.1 next in
-      some text (step_fault refused e.0 n.0) (record { written = n.0; is_allowed = n.1; has_text = n.2; has_fault = refl }) none)
-  wanted_onward Keeps (Ok None) onward h keeps (inr some) = inr (λ text next none. some [] None (refl, refl) refl)
-  wanted_onward Keeps (Err (Some f)) onward h keeps (inr some) = inr (λ text next none.
-      some text (Some f) (subst (λ (l : Numbered X F). IsTextOnward refused t items l.items l.stop text) h next, refl) none)
-  wanted_onward Keeps (Err None) onward h keeps (inr some) = inl (keeps refl)
+  -- what an answer says of the input, it says of what is made of its items
+  made_tells : (raw : AnswerOf X F) (onward : Numbered X F) → TellsNext raw onward → TellsNext (answer_made make raw) (with_each make onward)
+  made_tells (Ok (Some e)) onward h = (with_each make h.0, ap (with_each make) h.1)
+  made_tells (Ok None) onward h = ap (with_each make) h
+  made_tells (Err (Some f)) onward h = ap (with_each make) h
+  made_tells (Err None) onward h = tt
 
-  -- a run that stopped
-  stopped : (Keeps : List (ℕ × X) → Type 0) (answer : AnswerOf X F) (onward : Numbered X F) → TellsOnward answer onward → (answer ≡ Err None → Keeps items) → (texts : List ItemText) (h : Halt F) (held new : Option (List ℕ)) →
-      Stops (WantsFor refused t items answer) (IsDue refused t items answer) h held new →
-      EndsOnward Keeps refused failed t items texts onward (ending_by_halt failed h) (fault_by_halt h) held new
-  stopped Keeps answer onward tells keeps texts (halt.Fault why) held new x = inr (inl (by_fault answer onward tells why x.0 x.1 held new x.2))
-  stopped Keeps answer onward tells keeps texts halt.WriteFault held new x =
-      inr (inr (inl (record { has_ending = refl; by_none = refl; text = x.0; is_next = due_onward answer onward tells x.0 x.1 x.2; written = x.3 })))
-  stopped Keeps answer onward tells keeps texts halt.Memory held new x =
-      inr (inr (inr (record { has_ending = refl; by_none = refl; wanted = wanted_onward Keeps answer onward tells keeps x.0; no_more = x.1 })))
+  -- what is made of items before others
+  each_put : (items : List (ℕ × X)) (l : Numbered X F) → with_each make (put_items items l) ≡ put_items (each_made make items) (with_each make l)
+  each_put items l = ap (λ es. record { items = es; stop = l.stop }) (map-append (λ (e : ℕ × X). (e.0, make e.1)) items l.items)
 
--- a run over a reader, whose last answer says this of what its input says onward
-pub input_run : {I X C F : Type 0} (Keeps : List (ℕ × X) → Type 0) (answers : I → AnswerOf X F → I → Type 0) (refused : ℕ → C → F) (failed : F → Bool) (t : Allowed X C F) (start end : I) (ending : Ending) (fault : Option F) (old new : Option (List ℕ)) →
-    (run : RanOver answers refused failed t start ending fault end old new) → (said onward : Numbered X F) → said ≡ put_items run.items onward → TellsOnward run.answer onward → (run.answer ≡ Err None → Keeps run.items) →
-    InputRun Keeps refused failed t said ending fault old new
-input_run Keeps answers refused failed t start end ending fault old new run said onward says tells keeps = record {
-  items = run.items;
-  texts = run.texts;
-  are_texts = run.are_texts;
-  held = run.held;
-  written = run.written;
-  onward = onward;
-  says = says;
-  ends = elim run.ends [
-    | inl e ↦ inl (record { input_ends = subst (λ o. TellsOnward o onward) e.ended tells; has_ending = e.has_ending; by_none = e.by_none; no_more = e.no_more })
-    | inr e ↦ rw (e.has_ending, e.by) (stopped refused failed t run.items Keeps run.answer onward tells keeps run.texts e.halt run.held new e.stops)
-  ];
-}
+module _ {X C F : Type 0} (make : X → X) (input : Input X C F) where
+  -- what is read of an input, with this made of each item
+  pub read_made : (z : InputEnd) (read : List ℕ) (items : List (ℕ × X)) (answer : AnswerOf X F) → IsRead input z read items answer → IsRead (made make input) z read (each_made make items) (answer_made make answer)
+  read_made z read items answer r = record {
+    onward = with_each make r.onward;
+    says = ap (with_each make) r.says ∙ each_put make items r.onward;
+    tells = made_tells make answer r.onward r.tells;
+    stands = record { said = items; are_made = refl; told = answer; is_made = refl; stands = r.stands };
+  }
+
+  -- a reader whose answers are those of another, with this made of each item
+  module _ {I P : Type 0} (raw : P → AnswerOf X F → P → Type 0) (state : I → P) (reader : Reader I X C F)
+      (through : (old new : I) (answer : AnswerOf X F) → reader.answers old answer new → (o : AnswerOf X F) × raw (state old) o (state new) × (answer ≡ answer_made make o)) where
+    gave_through : (a b : I) (items : List (ℕ × X)) → Gave reader.answers a items b → (os : List (ℕ × X)) × (items ≡ each_made make os) × Gave raw (state a) os (state b)
+    unfolding Gave
+    gave_through a b [] same = ([], refl, ap state same)
+    gave_through a b (e ∷ es) (next, q, g) =
+        let p = through a next (Ok (Some e)) q in
+        let s = made_some make p.0 e p.2 in
+        let v = gave_through next b es g in
+        (s.0 ∷ v.0, ap₂ (λ x xs. x ∷ xs) s.2 v.1, (state next, subst (λ o. raw (state a) o (state next)) s.1 p.1, v.2))
+
+    -- what it gave and then answered is read, if what the other one gave is
+    pub reads_made : (left : I → Option (List ℕ)) (told : I → InputEnd) (start end : I) →
+        ((before : P) (items : List (ℕ × X)) (answer : AnswerOf X F) → Gave raw (state start) items before → raw before answer (state end) → GivenSo (left start) (left end) (λ given. IsRead input (told end) given items answer)) →
+        (items : List (ℕ × X)) (answer : AnswerOf X F) → GaveThen reader start end items answer → GivenSo (left start) (left end) (λ given. IsRead (made make input) (told end) given items answer)
+    reads_made left told start end reads items answer g =
+        let p = gave_through start g.before items g.gave in
+        let q = through g.before end answer g.answered in
+        let r = reads (state g.before) p.0 q.0 p.2 q.1 in
+        (r.0, r.1, subst (λ o. IsRead (made make input) (told end) r.0 items o) (sym q.2) (subst (λ es. IsRead (made make input) (told end) r.0 es (answer_made make q.0)) (sym p.1) (read_made (told end) r.0 p.0 q.0 r.2)))

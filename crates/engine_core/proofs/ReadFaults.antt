@@ -1,5 +1,5 @@
--- A run ends by a read fault only where its reader failed.
-use Rattle.std.proofs.Common.{◌≡◌, List, [], ◌++◌, ℕ, Option, Some, Err, true, refl, subst}
+-- A run ends by a read fault only where the source of its input failed.
+use Rattle.std.proofs.Common.{Option, ◌≡◌, ℕ, List, Err, true, false, ap, ◌∙◌, refl}
 use Rattle.list_core.specs.declared.device.InputEnd.{InputEnd}
 use Rattle.list_core.specs.declared.device.InputEnd.TheVariants.{Failed}
 use Rattle.list_core.specs.declared.list_fault.ListCause.{ListCause}
@@ -7,15 +7,17 @@ use Rattle.list_core.specs.declared.list_fault.ListCause.TheVariants.{LineTooLon
 use Rattle.list_core.specs.declared.line_rules.ItemFault.{ItemFault}
 use Rattle.list_core.specs.declared.line_rules.ItemFault.TheVariants as fault
 use Rattle.list_core.specs.Lines.{faulty}
-use Rattle.list_core.specs.Items.{Listing, Rules}
-use Rattle.list_core.specs.ItemReader.{AnswersItem, ReaderState}
+use Rattle.list_core.specs.Items.{Numbered, Rules}
 use Rattle.list_core.specs.ReadItems.{is_failed_read, is_of_source}
-use Rattle.list_core.proofs.Readers.{CanFollow-none}
 use Rattle.list_core.proofs.Stops.{ItemsMean, listing-means}
+use Rattle.capture_core.proofs.StopsTold.{capture_means}
 use Rattle.engine_core.specs.declared.ending.Ending.{Ending}
 use Rattle.engine_core.specs.declared.ending.Ending.TheVariants.{ReadFault}
 use Rattle.engine_core.specs.EngineText.{Allowed}
-use Rattle.engine_core.specs.RunOver.{RunsOver}
+use Rattle.engine_core.specs.CaptureRun.{capture_input}
+use Rattle.engine_core.specs.Input.{Input, IsRead}
+use Rattle.engine_core.specs.Run.{list_input}
+use Rattle.engine_core.specs.RunOver.{Leaves}
 use Rattle.engine_core.proofs.ReaderRuns.{failed_read}
 
 -- a cause that is the source's
@@ -27,18 +29,23 @@ of_source Moment e = cc
 of_source Hex e = cc
 of_source ListTooLong e = cc
 
-pub blamed : {C : Type 0} (f : ItemFault C) (z : InputEnd) → ItemsMean (faulty f) z → is_failed_read f ≡ true → z ≡ Failed
+blamed : {C : Type 0} (f : ItemFault C) (z : InputEnd) → ItemsMean (faulty f) z → is_failed_read f ≡ true → z ≡ Failed
 blamed (fault.Lines f) z h e = h (of_source f.cause e)
 blamed (fault.Line n why) z h e = cc
 
--- a reader of a list answers a fault of its source only where that failed
-answered : {S X C : Type 0} (r : Rules S X C) (b c : ReaderState S) (f : ItemFault C) → AnswersItem r b (Err (Some f)) c → is_failed_read f ≡ true → c.ending ≡ Failed
-answered r b c f q e =
-    let told = (q.reads [] c.ending (CanFollow-none c.ending)).0 in
-    blamed f c.ending (subst (λ (l : Listing _ _). ItemsMean l.stop c.ending) told (listing-means r b.settled c.ending b.taken (b.held ++ q.given ++ []))) e
+-- an input stops by a failed read only where its source failed
+abbrev pub Blames : {X C F : Type 0} → Input X C F → Type 0
+Blames {F = F} input = (z : InputEnd) (read : List ℕ) (f : F) → (input.says z read).stop ≡ faulty f → input.faults.failed f ≡ true → z ≡ Failed
 
-pub only_failed : {I S X C : Type 0} (r : Rules S X C) (state : I → ReaderState S) (t : Allowed X C (ItemFault C)) (x y : I) (ending : Ending) (by : Option (ItemFault C)) (old new : Option (List ℕ)) →
-    RunsOver (λ a answer b. AnswersItem r (state a) answer (state b)) fault.Line is_failed_read t x ending by y old new → ending ≡ ReadFault → (state y).ending ≡ Failed
-only_failed r state t x y ending by old new run is =
-    let p = failed_read (λ a answer b. AnswersItem r (state a) answer (state b)) fault.Line is_failed_read t (λ n why. refl) x ending by y old new run is in
-    answered r (state p.0) (state y) p.1 p.2 p.3
+pub list_blames : {S X C : Type 0} (r : Rules S X C) (s : S) → Blames (list_input r s)
+list_blames r s z read f stops = blamed f z (rw stops at (listing-means r s z 0 read))
+
+pub capture_blames : (A : Type 0) → Blames (capture_input {A = A})
+capture_blames A z read f stops = rw stops at (capture_means z read)
+
+-- so does a run, where no item is refused by such a fault
+pub source_failed : {X C F : Type 0} (input : Input X C F) (t : Allowed X C F) (ending : Ending) (by : Option F) (z : InputEnd) (read : List ℕ) (old new : Option (List ℕ)) → Blames input →
+    ((before : List (ℕ × X)) (e : ℕ × X) (why : C) → t.of_item before e (Err why) → input.faults.failed (input.faults.refused e.0 why) ≡ false) → Leaves input t ending by z read old new → ending ≡ ReadFault → z ≡ Failed
+source_failed {X} {C} {F} input t ending by z read old new blames never run is =
+    let f = failed_read (IsRead input z read) input.faults t never ending by old new run is in
+    blames z read f.1 (ap (λ (l : Numbered X F). l.stop) f.2.says ∙ ap (λ (l : Numbered X F). l.stop) f.2.tells) f.3

@@ -1,36 +1,25 @@
 -- A run leaves of a whole text that is allowed for what its input says: all, or a front.
-use Rattle.std.proofs.Common.{Option, Ok, Err, Result, ◌≡◌, ℕ, Bool, true, false, List, [], ◌∷◌, ◌++◌, inl, inr, ap, sym, ◌∙◌, refl, subst}
+use Rattle.std.proofs.Common.{Option, Some, None, Ok, Err, Result, ◌≡◌, ◌⊎◌, ℕ, Bool, true, false, List, [], ◌∷◌, ◌++◌, inl, inr, ap, sym, ◌∙◌, refl, subst}
 use Rattle.std.specs.Prelude.{if◌then◌else◌}
 use Rattle.std.proofs.lemmas.List.{append_assoc, append-nil}
 use Rattle.std.proofs.lemmas.Grind.{flat_map-append}
 use Rattle.std.specs.Io.KnownBytes.{Appends}
 use Rattle.list_core.specs.declared.device.InputEnd.{InputEnd}
-use Rattle.list_core.specs.declared.line_rules.ItemFault.{ItemFault}
-use Rattle.list_core.specs.declared.line_rules.ItemFault.TheVariants as fault
 use Rattle.list_core.specs.Device.{AppendsPrefix}
 use Rattle.list_core.specs.Lines.{Stop, finished, faulty}
-use Rattle.list_core.specs.Items.{Numbered, Rules, put_items, stops}
-use Rattle.list_core.specs.ReadItems as listed
+use Rattle.list_core.specs.Items.{Numbered, put_items, stops}
+use Rattle.list_core.specs.ReadItems.{AnswerOf}
 use Rattle.list_core.proofs.Devices.{Appends-append, Appends-none, AppendsPrefix-append, AppendsPrefix-more}
-use Rattle.capture_core.specs.Packets.{is_failed_read}
 use Rattle.engine_core.specs.declared.ending.Ending.{Ending}
 use Rattle.engine_core.specs.declared.ending.Ending.TheVariants.{Done, Findings, InputFault, ReadFault}
+use Rattle.engine_core.specs.declared.stopped.Halt.{Halt}
+use Rattle.engine_core.specs.declared.stopped.Halt.TheVariants as halt
 use Rattle.engine_core.specs.EngineText.{Allowed, AreAllowedTexts, ItemText, has_finding, joined_texts, step_text_to}
-use Rattle.engine_core.specs.InputRun.{EndsAtWriter, EndsByFault, EndsForMemory, EndsWithInput, InputRun, IsTextOnward, RefusesItem, stop_text}
-use Rattle.engine_core.specs.CaptureRun.{CaptureText, KeepsOfCapture, fault_of}
-use Rattle.engine_core.specs.MadeRun.{BeginsNone, KeepsLine}
-use Rattle.engine_core.specs.WholeRun.{AllowsEach, CapturesAreWrittenWhole, InputsAreWrittenWhole, IsWholeText, LeavesAll, LeavesFront, LeavesToFault, LeavesWholeText, ListsAreWrittenWhole}
+use Rattle.engine_core.specs.Input.{Faults, Input, TellsNext}
+use Rattle.engine_core.specs.RunOver.{EndsThere, FailsBefore, IsDue, Run, Stops, WantsFor, ending_by_halt, fault_by_halt, step_fault}
+use Rattle.engine_core.specs.WholeRun.{AllowsEach, GoesOn, InputsAreWrittenWhole, IsTextOnward, IsWholeText, IsWrittenWhole, LeavesAll, LeavesFront, LeavesToFault, LeavesWholeText, RefusesItem, SaysFirst, stop_text}
+use Rattle.engine_core.proofs.ReaderRuns.{run_as}
 use Rattle.engine_core.proofs.ItemTexts.{are_next, are_texts, next_push}
-use Rattle.engine_core.proofs.WholeTexts.{front_none}
-
--- a whole text that goes on from this front
-pub record GoesOn {X C F : Type 0} (refused : ℕ → C → F) (t : Allowed X C F) (said : Numbered X F) (front : List ℕ) : Type 0 where
-  pub text : List ℕ
-  pub found : Bool
-  pub stop : Stop F
-  pub is_whole : IsWholeText refused t said text found stop
-  pub more : List ℕ
-  pub goes_on : text ≡ front ++ more
 
 module _ {X C F : Type 0} (refused : ℕ → C → F) (t : Allowed X C F) (said : Numbered X F) where
   -- the text up to these items
@@ -132,98 +121,132 @@ module _ {X C F : Type 0} (refused : ℕ → C → F) (t : Allowed X C F) (said 
             goes_on = sym (append_assoc t.first (joined_texts texts) (t.last f)) ∙ ap (λ (l : List ℕ). up_to texts ++ l) (sym same) ∙ sym (append-nil (up_to texts ++ next));
           }
 
-module _ {X C F : Type 0} (Keeps : List (ℕ × X) → Type 0) (refused : ℕ → C → F) (failed : F → Bool) (t : Allowed X C F) (said : Numbered X F) (ending : Ending) (fault : Option F) (old new : Option (List ℕ)) (run : InputRun Keeps refused failed t said ending fault old new) where
+-- nothing is a prefix of any text
+front_none : (a : Option (List ℕ)) (text : List ℕ) → AppendsPrefix a a text
+front_none None text = tt
+front_none (Some os) text = ([], text, refl, sym (append-nil os))
+
+module _ {X C F : Type 0} (refused : ℕ → C → F) (t : Allowed X C F) (items : List (ℕ × X)) where
+  -- an item that is refused
+  step_refused : (n : ℕ) (s : Result (List ℕ × Bool) C) (f : F) → Some f ≡ step_fault refused n s → (why : C) × (s ≡ Err why) × (f ≡ refused n why)
+  step_refused n (Ok s) f h = cc
+  step_refused n (Err why) f h = (why, refl, cc)
+
+  -- a text that ends by a fault is the last one: the input stops by it, or the next item is refused
+  closes : (answer : AnswerOf X F) (onward : Numbered X F) → TellsNext answer onward → (f : F) (text : List ℕ) → IsDue refused t items answer text (Some f) → ((onward ≡ stops (faulty f)) ⊎ RefusesItem refused t items onward f) × (text ≡ t.last f)
+  closes (Ok (Some e)) onward h f text due =
+      let s = step_refused e.0 due.written f due.has_fault in (
+        inr (record { item = e; others = h.0; cause = s.0; is_next = h.1; is_refused = subst (λ r. t.of_item items e r) s.1 due.is_allowed; is_fault = s.2 }),
+        due.has_text ∙ ap (step_text_to refused t e.0) s.1 ∙ ap t.last (sym s.2),
+      )
+  closes (Ok None) onward h f text due = let none = due.1 in cc
+  closes (Err (Some g)) onward h f text due =
+      let is = due.1 in
+      let same : g ≡ f = cc in
+      (inl (rw same at h), due.0 ∙ ap t.last same)
+  closes (Err None) onward h f text due = absurd due
+
+  -- what is due for an answer may be written next
+  due_onward : (answer : AnswerOf X F) (onward : Numbered X F) → TellsNext answer onward → (text : List ℕ) (closing : Option F) → IsDue refused t items answer text closing → IsTextOnward refused t items onward.items onward.stop text
+  due_onward (Ok (Some e)) onward h text closing due = subst (λ (l : Numbered X F). IsTextOnward refused t items l.items l.stop text) (sym h.1) (due.written, due.is_allowed, due.has_text)
+  due_onward (Ok None) onward h text closing due = subst (λ (l : Numbered X F). IsTextOnward refused t items l.items l.stop text) (sym h) due.0
+  due_onward (Err (Some f)) onward h text closing due = subst (λ (l : Numbered X F). IsTextOnward refused t items l.items l.stop text) (sym h) due.0
+  due_onward (Err None) onward h text closing due = absurd due
+
+module _ {X C F : Type 0} (faults : Faults C F) (t : Allowed X C F) (said : Numbered X F) (ending : Ending) (fault : Option F) (old new : Option (List ℕ)) (run : Run (SaysFirst said) faults t ending fault old new) where
+  abbrev onward : Numbered X F
+  onward = run.read.0
+
   -- the whole text stands written, with this last part
   all_written : (last : List ℕ) → Appends run.held new last → Appends old new (t.first ++ (joined_texts run.texts ++ last))
   all_written last w = subst (λ (l : List ℕ). Appends old new l) (append_assoc t.first (joined_texts run.texts) last) (Appends-append old run.held new _ last run.written w)
 
-  by_end : EndsWithInput run.texts run.onward ending fault run.held new → (found : Bool) → has_finding run.texts ≡ found → LeavesAll refused t said found fault old new
+  by_end : EndsThere run.texts run.answer ending fault run.held new → (found : Bool) → has_finding run.texts ≡ found → LeavesAll faults t said found fault old new
   by_end e found finds = record {
     text = t.first ++ (joined_texts run.texts ++ []);
-    is_whole = subst (λ (f : Bool). IsWholeText refused t said (t.first ++ (joined_texts run.texts ++ [])) f finished) finds (whole_at refused t said run.items run.texts run.are_texts run.onward run.says finished e.input_ends);
+    is_whole = subst (λ (f : Bool). IsWholeText faults.refused t said (t.first ++ (joined_texts run.texts ++ [])) f finished) finds
+        (whole_at faults.refused t said run.items run.texts run.are_texts onward run.read.1 finished (subst (λ o. TellsNext o onward) e.ended run.read.2));
     by_none = e.by_none;
     written = all_written [] (rw e.no_more (Appends-none run.held));
   }
 
-  by_found : EndsWithInput run.texts run.onward ending fault run.held new → (found : Bool) → has_finding run.texts ≡ found → LeavesWholeText refused failed t (if found then Findings else Done) said fault old new
+  by_found : EndsThere run.texts run.answer ending fault run.held new → (found : Bool) → has_finding run.texts ≡ found → LeavesWholeText faults t (if found then Findings else Done) said fault old new
   by_found e true finds = by_end e true finds
   by_found e false finds = by_end e false finds
 
-  by_fault : EndsByFault refused failed t run.items run.onward ending fault run.held new → (end : Ending) → ending ≡ end → LeavesToFault refused failed t said end fault old new
-  by_fault e end is = record {
-    why = e.why;
-    text = t.first ++ (joined_texts run.texts ++ t.last e.why);
-    found = has_finding run.texts;
-    is_whole = elim e.is_next [
-      | inl h ↦ whole_at refused t said run.items run.texts run.are_texts run.onward run.says (faulty e.why) h
-      | inr x ↦ whole_refused refused t said run.items run.texts run.are_texts run.onward run.says e.why x
-    ];
-    by = e.by;
-    has_ending = sym e.has_ending ∙ is;
-    written = all_written (t.last e.why) e.told;
+  -- a fault was told
+  by_fault : (why : F) (text : List ℕ) → IsDue faults.refused t run.items run.answer text (Some why) → Appends run.held new text → fault ≡ Some why → LeavesToFault faults t said (ending_by_halt faults.failed (halt.Fault why)) fault old new
+  by_fault why text due told by =
+      let c = closes faults.refused t run.items run.answer onward run.read.2 why text due in
+      record {
+        why = why;
+        text = t.first ++ (joined_texts run.texts ++ t.last why);
+        found = has_finding run.texts;
+        is_whole = elim c.0 [
+          | inl h ↦ whole_at faults.refused t said run.items run.texts run.are_texts onward run.read.1 (faulty why) h
+          | inr x ↦ whole_refused faults.refused t said run.items run.texts run.are_texts onward run.read.1 why x
+        ];
+        by = by;
+        has_ending = refl;
+        written = all_written (t.last why) (subst (λ l. Appends run.held new l) c.1 told);
+      }
+
+  by_failed : (why : F) → LeavesToFault faults t said (ending_by_halt faults.failed (halt.Fault why)) fault old new → LeavesWholeText faults t (ending_by_halt faults.failed (halt.Fault why)) said fault old new
+  by_failed why w = by_which (faults.failed why) w
+    where
+      by_which : (failed : Bool) → LeavesToFault faults t said (if failed then ReadFault else InputFault) fault old new → LeavesWholeText faults t (if failed then ReadFault else InputFault) said fault old new
+      by_which true l = l
+      by_which false l = l
+
+  -- a front stands written, or a prefix of one
+  by_writer : fault ≡ None → (text : List ℕ) → IsTextOnward faults.refused t run.items onward.items onward.stop text → AppendsPrefix run.held new text → LeavesFront faults t said fault old new
+  by_writer by text next w = record {
+    by_none = by;
+    front = up_to faults.refused t said run.texts ++ text;
+    is_front = record { items = run.items; texts = run.texts; are_texts = run.are_texts; onward = onward; says = run.read.1; next = text; is_next = inr next; is_text = refl };
+    written = AppendsPrefix-append old run.held new _ text run.written w;
+    of_whole = λ each. goes_next faults.refused t said each onward.items onward.stop run.items run.texts run.are_texts run.read.1 text next;
   }
 
-  by_failed : EndsByFault refused failed t run.items run.onward ending fault run.held new → (read : Bool) → ending ≡ (if read then ReadFault else InputFault) → LeavesWholeText refused failed t (if read then ReadFault else InputFault) said fault old new
-  by_failed e true is = by_fault e ReadFault is
-  by_failed e false is = by_fault e InputFault is
-
-  by_writer : EndsAtWriter refused t run.items run.onward ending fault run.held new → LeavesFront refused t said fault old new
-  by_writer e = record {
-    by_none = e.by_none;
-    front = λ each.
-        let g = goes_next refused t said each run.onward.items run.onward.stop run.items run.texts run.are_texts run.says e.text e.is_next in (
-          g.text,
-          g.found,
-          g.stop,
-          g.is_whole,
-          subst (λ (l : List ℕ). AppendsPrefix old new l) (sym g.goes_on) (AppendsPrefix-more old new _ g.more (AppendsPrefix-append old run.held new _ e.text run.written e.written)),
-        );
+  by_memory : fault ≡ None → new ≡ run.held → LeavesFront faults t said fault old new
+  by_memory by same = record {
+    by_none = by;
+    front = up_to faults.refused t said run.texts ++ [];
+    is_front = record { items = run.items; texts = run.texts; are_texts = run.are_texts; onward = onward; says = run.read.1; next = []; is_next = inl refl; is_text = refl };
+    written = rw same (AppendsPrefix-append old run.held run.held _ [] run.written (front_none run.held []));
+    of_whole = λ each. subst (λ l. GoesOn faults.refused t said l) (sym (append-nil (up_to faults.refused t said run.texts)))
+        (goes_behind faults.refused t said each onward.items onward.stop run.items run.texts run.are_texts run.read.1);
   }
 
-  by_memory : EndsForMemory Keeps refused t run.items run.onward ending fault run.held new → LeavesFront refused t said fault old new
-  by_memory e = record {
-    by_none = e.by_none;
-    front = λ each.
-        let g = goes_behind refused t said each run.onward.items run.onward.stop run.items run.texts run.are_texts run.says in (
-          g.text,
-          g.found,
-          g.stop,
-          g.is_whole,
-          subst (λ (l : List ℕ). AppendsPrefix old new l) (sym g.goes_on) (rw e.no_more (AppendsPrefix-append old run.held run.held _ g.more run.written (front_none run.held g.more))),
-        );
-  }
+  by_halt : (h : Halt F) → Stops (WantsFor faults.refused t run.items run.answer) (IsDue faults.refused t run.items run.answer) h run.held new → fault ≡ fault_by_halt h → LeavesWholeText faults t (ending_by_halt faults.failed h) said fault old new
+  by_halt (halt.Fault why) s by = by_failed why (by_fault why s.0 s.1 s.2 by)
+  by_halt halt.WriteFault s by = by_writer by s.0 (due_onward faults.refused t run.items run.answer onward run.read.2 s.0 s.1 s.2) s.3
+  by_halt halt.Memory s by = by_memory by s.1
 
-  pub leaves_whole : LeavesWholeText refused failed t ending said fault old new
-  leaves_whole = elim run.ends [
-    | inl e ↦ subst (λ (o : Ending). LeavesWholeText refused failed t o said fault old new) (sym e.has_ending) (by_found e (has_finding run.texts) refl)
-    | inr (inl e) ↦ subst (λ (o : Ending). LeavesWholeText refused failed t o said fault old new) (sym e.has_ending) (by_failed e (failed e.why) e.has_ending)
-    | inr (inr (inl e)) ↦ subst (λ (o : Ending). LeavesWholeText refused failed t o said fault old new) (sym e.has_ending) (by_writer e)
-    | inr (inr (inr e)) ↦ subst (λ (o : Ending). LeavesWholeText refused failed t o said fault old new) (sym e.has_ending) (by_memory e)
+  run_whole : LeavesWholeText faults t ending said fault old new
+  run_whole = elim run.ends [
+    | inl e ↦ subst (λ (o : Ending). LeavesWholeText faults t o said fault old new) (sym e.has_ending) (by_found e (has_finding run.texts) refl)
+    | inr e ↦ subst (λ (o : Ending). LeavesWholeText faults t o said fault old new) (sym e.has_ending) (by_halt e.halt e.stops e.by)
   ]
 
 -- nothing of an input was written
-begins_none : {X C F : Type 0} (refused : ℕ → C → F) (failed : F → Bool) (t : Allowed X C F) (said : Numbered X F) (ending : Ending) (z : InputEnd) (read : List ℕ) (fault : Option F) (old new : Option (List ℕ)) →
-    BeginsNone t ending z read fault old new → LeavesWholeText refused failed t ending said fault old new
-begins_none refused failed t said ending z read fault old new w =
-    subst (λ (o : Ending). LeavesWholeText refused failed t o said fault old new) (sym w.has_ending) (record {
+begins_none : {X C F : Type 0} (faults : Faults C F) (t : Allowed X C F) (said : Numbered X F) (ending : Ending) (fault : Option F) (old new : Option (List ℕ)) →
+    FailsBefore (Unit {0}) t ending fault old new → LeavesWholeText faults t ending said fault old new
+begins_none faults t said ending fault old new w =
+    subst (λ (o : Ending). LeavesWholeText faults t o said fault old new) (sym w.write_fault) (record {
       by_none = w.by_none;
-      front = λ each.
-          let g = goes_behind refused t said each said.items said.stop [] [] (are_texts t [] [] tt) refl in (
-            g.text,
-            g.found,
-            g.stop,
-            g.is_whole,
-            subst (λ (l : List ℕ). AppendsPrefix old new l) (sym g.goes_on) (AppendsPrefix-more old new _ g.more (AppendsPrefix-more old new t.first [] w.written)),
-          );
+      front = (t.first ++ []) ++ [];
+      is_front = record { items = []; texts = []; are_texts = are_texts t [] [] tt; onward = said; says = refl; next = []; is_next = inl refl; is_text = refl };
+      written = AppendsPrefix-more old new (t.first ++ []) [] (AppendsPrefix-more old new t.first [] w.written);
+      of_whole = λ each. subst (λ l. GoesOn faults.refused t said l) (sym (append-nil (t.first ++ []))) (goes_behind faults.refused t said each said.items said.stop [] [] (are_texts t [] [] tt) refl);
     })
 
-pub inputs_are : {X C F : Type 0} (refused : ℕ → C → F) (failed : F → Bool) (t : Allowed X C F) → InputsAreWrittenWhole refused failed t
-inputs_are refused failed t said ending fault old new run = leaves_whole (λ items. Unit {0}) refused failed t said ending fault old new run
+pub inputs_are : {X C F : Type 0} (t : Allowed X C F) → InputsAreWrittenWhole t
+inputs_are t faults said ending fault old new (inl w) = begins_none faults t said ending fault old new w
+inputs_are t faults said ending fault old new (inr run) = run_whole faults t said ending fault old new run
 
-pub captures_are : {A : Type 0} (t : CaptureText A) → CapturesAreWrittenWhole t
-captures_are t make ending z read fault old new (inl w) = begins_none fault_of is_failed_read t _ ending z read fault old new w
-captures_are t make ending z read fault old new (inr run) = leaves_whole (KeepsOfCapture make z read) fault_of is_failed_read t _ ending fault old new run
-
-pub lists_are : {S X C : Type 0} (r : Rules S X C) (t : Allowed X C (ItemFault C)) → ListsAreWrittenWhole r t
-lists_are r t s make ending z read by old new (inl w) = begins_none fault.Line listed.is_failed_read t _ ending z read by old new w
-lists_are r t s make ending z read by old new (inr run) = leaves_whole (KeepsLine r s make z read) fault.Line listed.is_failed_read t _ ending by old new run
+pub input_is : {X C F : Type 0} (input : Input X C F) (t : Allowed X C F) → IsWrittenWhole input t
+input_is input t ending fault z read old new (inl w) =
+    inputs_are t input.faults (input.says z read) ending fault old new (inl (record { write_fault = w.write_fault; by_none = w.by_none; untouched = tt; written = w.written }))
+input_is input t ending fault z read old new (inr run) =
+    inputs_are t input.faults (input.says z read) ending fault old new (inr (run_as input.faults ending fault old new t run (run.read.onward, run.read.says, run.read.tells)))

@@ -77,11 +77,6 @@ step_text_to refused t n (Err why) = t.last (refused n why)
 abbrev pub step_text : {X C : Type 0} → Text X C → ℕ → Result (List ℕ × Bool) C → List ℕ
 step_text t n s = step_text_to fault.Line (exactly t) n s
 
--- what is written next, after these items: the text of the first of those that follow, or the last one
-abbrev pub next_text : {X C : Type 0} → Text X C → List (ℕ × X) → List (ℕ × X) → Stop (ItemFault C) → List ℕ
-next_text t before [] stop = last_text t stop
-next_text t before (e ∷ es) stop = step_text t e.0 (t.of_item before e)
-
 -- a text that speaks of each item alone, and refuses none
 abbrev pub IsPlain : {X C : Type 0} → Text X C → (ℕ × X → List ℕ) → (ℕ × X → Bool) → Type 0
 IsPlain {X = X} t line finds = (before : List (ℕ × X)) (e : ℕ × X) → t.of_item before e ≡ Ok (line e, finds e)

@@ -1,15 +1,12 @@
 -- What an engine over events writes, whatever input the events come from.
-use Rattle.std.specs.Prelude.{◌≡◌, ℕ, Bool, List, [], ◌++◌, codes, Option, Result, Ok, Err}
+use Rattle.std.specs.Prelude.{◌≡◌, ℕ, Bool, List, [], ◌++◌, codes, Result, Ok, Err}
 use Rattle.list_core.specs.declared.event.Event.{Event}
-use Rattle.list_core.specs.ReadItems.{AnswerOf}
-use Rattle.engine_core.specs.declared.ending.Ending.{Ending}
 use Rattle.engine_core.specs.declared.style.Style.{Style}
 use Rattle.engine_core.specs.declared.style.Style.TheVariants.{Lines, Dated}
 use Rattle.object_core.specs.declared.counted.Form.{Form}
 use Rattle.object_core.specs.declared.counted.Form.TheVariants as forms
 use Rattle.engine_core.specs.Dated.{dated}
 use Rattle.engine_core.specs.EngineText.{Allowed, TextTo}
-use Rattle.engine_core.specs.RunOver.{RunsOver}
 
 -- what is written of an event after others, and whether it is a finding; no event is refused
 abbrev pub EventText : Type 0 → Type 0
@@ -36,6 +33,15 @@ AgreesOnNothing {A} allows = (before : List (ℕ × Event A)) (e : ℕ × Event 
 abbrev pub AllowsStep : {A C : Type 0} → EventAllows A → List (ℕ × Event A) → ℕ × Event A → Result (List ℕ × Bool) C → Type 0
 AllowsStep allows before e (Ok written) = allows before e written
 AllowsStep allows before e (Err why) = ⊥
+
+-- how the fault of an input is told last: by a line of text, or by an object
+pub record FaultText (F : Type 0) : Type 0 where
+  pub line : F → List ℕ
+  pub object : F → List ℕ
+
+-- by these
+abbrev pub fault_text : {F : Type 0} → (F → List ℕ) → (F → List ℕ) → FaultText F
+fault_text line object = record { line = line; object = object }
 
 -- that over an input, the fault of which a last line tells
 abbrev pub over_allowed : {A C F : Type 0} → EventAllows A → (F → List ℕ) → Allowed (Event A) C F
@@ -65,17 +71,11 @@ line_in (Lines (forms.Object counted)) line object = object
 line_in Dated line object = codes "- " ++ line
 
 -- what an engine may write over an input in a style
-abbrev pub over_in : {A C F : Type 0} → Style → (Form → EventAllows A) → (F → List ℕ) → (F → List ℕ) → Allowed (Event A) C F
-over_in style allows last_line last_object = over_allowed (in_style style allows) (λ f. line_in style (last_line f) (last_object f))
+abbrev pub over_in : {A C F : Type 0} → Style → (Form → EventAllows A) → FaultText F → Allowed (Event A) C F
+over_in style allows last = over_allowed (in_style style allows) (λ f. line_in style (last.line f) (last.object f))
 
 -- ---- runs
 
 -- a text of events for each form, and no other
 abbrev pub exactly_each : {A : Type 0} → (Form → EventText A) → Form → EventAllows A
 exactly_each texts form = exactly_event (texts form)
-
--- A run over a reader of events, by something of this kind, writes in this style what that allows.
-pub record RunsSome {S I A C F : Type 0} (style : Style) (Is : S → Type 0) (allows : S → Form → EventAllows A) (answers : I → AnswerOf (Event A) F → I → Type 0) (refused : ℕ → C → F) (failed : F → Bool) (last_line last_object : F → List ℕ) (start : I) (ending : Ending) (fault : Option F) (end : I) (old new : Option (List ℕ)) : Type 0 where
-  pub by : S
-  pub is : Is by
-  pub run : RunsOver answers refused failed (over_in style (allows by) last_line last_object) start ending fault end old new

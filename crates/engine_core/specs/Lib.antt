@@ -1,10 +1,10 @@
 pub mod Ending
 pub mod Dated
 pub mod EngineText
-pub mod Run
+pub mod Input
 pub mod RunOver
+pub mod Run
 pub mod EventsText
-pub mod InputRun
 pub mod MadeRun
 pub mod CaptureRun
 pub mod computed

@@ -1,14 +1,20 @@
--- A run over a reader of items, of whatever input: what the reader gave, what was written of each item, and how its last answer ended the run.
+-- A run of an engine: the items of which it wrote, the answer that ended it, and what it left written.
 use Rattle.std.specs.Prelude.{◌≡◌, ◌⊎◌, ℕ, Bool, List, [], ◌++◌, Option, Some, None, Result, Ok, Err, if◌then◌else◌}
 use Rattle.std.specs.Io.KnownBytes.{Appends}
+use Rattle.list_core.specs.declared.device.InputEnd.{InputEnd}
+use Rattle.list_core.specs.declared.device.InputEnd.TheVariants.{Open}
 use Rattle.list_core.specs.Device.{AppendsPrefix}
-use Rattle.list_core.specs.ReadItems.{AnswerOf, Gave}
+use Rattle.list_core.specs.ReadItems.{AnswerOf}
 use Rattle.engine_core.specs.declared.ending.Ending.{Ending}
 use Rattle.engine_core.specs.declared.ending.Ending.TheVariants.{Done, Findings, WriteFault, Memory}
 use Rattle.engine_core.specs.declared.stopped.Halt.{Halt}
 use Rattle.engine_core.specs.declared.stopped.Halt.TheVariants as halt
+use Rattle.engine_core.specs.declared.stopped.Stopped.{Stopped}
 use Rattle.engine_core.specs.Ending.{ending_by_fault}
 use Rattle.engine_core.specs.EngineText.{Allowed, ItemText, AreAllowedTexts, has_finding, joined_texts, step_text_to}
+use Rattle.engine_core.specs.Input.{Faults, GaveThen, Input, IsRead, Reader}
+
+-- ---- what is due for an answer
 
 -- the fault by which a step ends the text
 abbrev pub step_fault : {C F : Type 0} → (ℕ → C → F) → ℕ → Result (List ℕ × Bool) C → Option F
@@ -37,6 +43,8 @@ HasText {F} Due = (text : List ℕ) (closing : Option F) → Due text closing �
 abbrev pub WantsFor : {X C F : Type 0} → (ℕ → C → F) → Allowed X C F → List (ℕ × X) → AnswerOf X F → Type 0
 WantsFor refused t before answer = (answer ≡ Err None) ⊎ HasText (IsDue refused t before answer)
 
+-- ---- how an answer ends a run
+
 -- The run stops: a text that is due was written, and ends by the fault that is handed out; the writer failed at a prefix of one; or memory was wanted and nothing was written.
 abbrev pub Stops : {F : Type 0} → Type 0 → (List ℕ → Option F → Type 0) → Halt F → Option (List ℕ) → Option (List ℕ) → Type 0
 Stops wants Due (halt.Fault why) old new = (text : List ℕ) × Due text (Some why) × Appends old new text
@@ -55,7 +63,7 @@ fault_by_halt (halt.Fault why) = Some why
 fault_by_halt halt.WriteFault = None
 fault_by_halt halt.Memory = None
 
--- how the last answer ends a run: the input has ended, and nothing more is written
+-- the input has ended: one of the items was a finding or none was, and nothing more is written
 pub record EndsThere {X F : Type 0} (texts : List ItemText) (answer : AnswerOf X F) (ending : Ending) (fault : Option F) (held new : Option (List ℕ)) : Type 0 where
   pub ended : answer ≡ Ok None
   pub has_ending : ending ≡ (if has_finding texts then Findings else Done)
@@ -63,34 +71,55 @@ pub record EndsThere {X F : Type 0} (texts : List ItemText) (answer : AnswerOf X
   pub no_more : new ≡ held
 
 -- or the run stops early: by a fault, which is handed out, because its writer failed, or for want of memory
-pub record HaltsThere {X C F : Type 0} (refused : ℕ → C → F) (failed : F → Bool) (t : Allowed X C F) (items : List (ℕ × X)) (answer : AnswerOf X F) (ending : Ending) (fault : Option F) (held new : Option (List ℕ)) : Type 0 where
+pub record HaltsThere {X C F : Type 0} (faults : Faults C F) (t : Allowed X C F) (items : List (ℕ × X)) (answer : AnswerOf X F) (ending : Ending) (fault : Option F) (held new : Option (List ℕ)) : Type 0 where
   pub halt : Halt F
-  pub stops : Stops (WantsFor refused t items answer) (IsDue refused t items answer) halt held new
-  pub has_ending : ending ≡ ending_by_halt failed halt
+  pub stops : Stops (WantsFor faults.refused t items answer) (IsDue faults.refused t items answer) halt held new
+  pub has_ending : ending ≡ ending_by_halt faults.failed halt
   pub by : fault ≡ fault_by_halt halt
 
--- a run that wrote its first text: the items that the reader gave, what was written of each of them, and its last answer
-pub record RanOver {I X C F : Type 0} (answers : I → AnswerOf X F → I → Type 0) (refused : ℕ → C → F) (failed : F → Bool) (t : Allowed X C F) (start : I) (ending : Ending) (fault : Option F) (end : I) (old new : Option (List ℕ)) : Type 0 where
+-- ---- the run
+
+-- A run that wrote its first text: items and an answer behind them that are read so, what it wrote of each item, and how the answer ended it.
+pub record Run {X C F : Type 0} (IsReadSo : List (ℕ × X) → AnswerOf X F → Type 0) (faults : Faults C F) (t : Allowed X C F) (ending : Ending) (fault : Option F) (old new : Option (List ℕ)) : Type 0 where
   pub items : List (ℕ × X)
   pub texts : List ItemText
   pub are_texts : AreAllowedTexts t items texts
-  pub before : I
-  pub gave : Gave answers start items before
-  -- what the writer holds before the last answer
+  -- what the writer holds behind these texts
   pub held : Option (List ℕ)
   pub written : Appends old held (t.first ++ joined_texts texts)
   pub answer : AnswerOf X F
-  pub answered : answers before answer end
-  pub ends : EndsThere texts answer ending fault held new ⊎ HaltsThere refused failed t items answer ending fault held new
+  pub read : IsReadSo items answer
+  pub ends : EndsThere texts answer ending fault held new ⊎ HaltsThere faults t items answer ending fault held new
 
--- a run that could not write its first text: the reader is untouched
-pub record FailsBefore {I X C F : Type 0} (t : Allowed X C F) (start : I) (ending : Ending) (fault : Option F) (end : I) (old new : Option (List ℕ)) : Type 0 where
+-- a run that could not write its first text: the writer failed at a prefix of it, and what it reads is untouched
+pub record FailsBefore {X C F : Type 0} (Untouched : Type 0) (t : Allowed X C F) (ending : Ending) (fault : Option F) (old new : Option (List ℕ)) : Type 0 where
   pub write_fault : ending ≡ WriteFault
   pub by_none : fault ≡ None
-  pub untouched : end ≡ start
+  pub untouched : Untouched
   pub written : AppendsPrefix old new t.first
 
--- what a run over a reader of items leaves
-abbrev pub RunsOver : {I X C F : Type 0} → (I → AnswerOf X F → I → Type 0) → (ℕ → C → F) → (F → Bool) → Allowed X C F → I → Ending → Option F → I → Option (List ℕ) → Option (List ℕ) → Type 0
-RunsOver answers refused failed t start ending fault end old new =
-    FailsBefore t start ending fault end old new ⊎ RanOver answers refused failed t start ending fault end old new
+-- what a run leaves of what is untouched so, or is read so
+abbrev pub LeavesSo : {X C F : Type 0} → Type 0 → (List (ℕ × X) → AnswerOf X F → Type 0) → Faults C F → Allowed X C F → Ending → Option F → Option (List ℕ) → Option (List ℕ) → Type 0
+LeavesSo Untouched IsReadSo faults t ending fault old new = FailsBefore Untouched t ending fault old new ⊎ Run IsReadSo faults t ending fault old new
+
+-- what a run hands out that ended so
+abbrev pub stopped_at : {I F : Type 0} → Ending → Option F → I → Stopped I F
+stopped_at ending fault reader = record { ending = ending; fault = fault; reader = reader }
+
+-- what a run over a reader leaves, and hands out
+abbrev pub RunsOver : {I X C F : Type 0} → Reader I X C F → Allowed X C F → I → Stopped I F → Option (List ℕ) → Option (List ℕ) → Type 0
+RunsOver reader t start stopped old new = LeavesSo (stopped.reader ≡ start) (GaveThen reader start stopped.reader) reader.faults t stopped.ending stopped.fault old new
+
+-- an open source was left as it was: it is open still, and nothing was read
+abbrev pub IsUntouched : InputEnd → InputEnd → List ℕ → Type 0
+IsUntouched before after read = (after ≡ before) × (read ≡ [])
+
+-- what a run leaves of an input of which these octets were read, where its source then stands so
+abbrev pub Leaves : {X C F : Type 0} → Input X C F → Allowed X C F → Ending → Option F → InputEnd → List ℕ → Option (List ℕ) → Option (List ℕ) → Type 0
+Leaves input t ending fault z read old new = LeavesSo (IsUntouched Open z read) (IsRead input z read) input.faults t ending fault old new
+
+-- something of this kind settles what may be written, and that is left so
+pub record OfKind {T : Type 0} (Is : T → Type 0) (IsLeft : T → Type 0) : Type 0 where
+  pub by : T
+  pub is : Is by
+  pub is_left : IsLeft by

@@ -1,24 +1,34 @@
 -- A whole text that may be written of what an input says, and what a run leaves of one.
-use Rattle.std.specs.Prelude.{◌≡◌, ◌⊎◌, ℕ, Bool, true, false, List, ◌++◌, Option, None, Some, Result}
+use Rattle.std.specs.Prelude.{◌≡◌, ◌⊎◌, ℕ, Bool, true, false, List, [], ◌∷◌, ◌++◌, Option, None, Some, Result, Err}
 use Rattle.std.specs.Io.KnownBytes.{Appends}
 use Rattle.list_core.specs.declared.device.InputEnd.{InputEnd}
-use Rattle.list_core.specs.declared.event.Event.{Event}
-use Rattle.list_core.specs.declared.line_rules.ItemFault.{ItemFault}
-use Rattle.list_core.specs.declared.line_rules.ItemFault.TheVariants as fault
-use Rattle.capture_core.specs.declared.capture_fault.CaptureFault.{CaptureFault}
 use Rattle.list_core.specs.Device.{AppendsPrefix}
-use Rattle.list_core.specs.Items.{Numbered, Rules, listing, put_items, stops}
-use Rattle.list_core.specs.Lines.{Stop, finished, faulty}
-use Rattle.list_core.specs.ReadItems as listed
-use Rattle.capture_core.specs.Captured.{captured_events}
-use Rattle.capture_core.specs.Packets.{is_failed_read}
+use Rattle.list_core.specs.Items.{Numbered, put_item, put_items, stops}
+use Rattle.list_core.specs.Lines.{Stop, finished, unfinished, faulty}
+use Rattle.list_core.specs.ReadItems.{AnswerOf}
 use Rattle.engine_core.specs.declared.ending.Ending.{Ending}
 use Rattle.engine_core.specs.declared.ending.Ending.TheVariants.{Done, Findings, InputFault, ReadFault, WriteFault, Memory}
 use Rattle.engine_core.specs.Ending.{ending_by_fault}
-use Rattle.engine_core.specs.EngineText.{Allowed, AreAllowedTexts, ItemText, has_finding, joined_texts}
-use Rattle.engine_core.specs.InputRun.{InputRun, RefusesItem, stop_text}
-use Rattle.engine_core.specs.CaptureRun.{CaptureText, CaptureWrites, fault_of}
-use Rattle.engine_core.specs.MadeRun.{MadeWrites, with_each}
+use Rattle.engine_core.specs.EngineText.{Allowed, AreAllowedTexts, ItemText, has_finding, joined_texts, step_text_to}
+use Rattle.engine_core.specs.Input.{Faults, Input, TellsNext}
+use Rattle.engine_core.specs.RunOver.{Leaves, LeavesSo}
+
+-- ---- texts
+
+-- what is written last, by how an input stops
+abbrev pub stop_text : {X C F : Type 0} → Allowed X C F → Stop F → List ℕ
+stop_text t finished = []
+stop_text t unfinished = []
+stop_text t (faulty f) = t.last f
+
+-- the next item is refused after these items, which is a fault of the input
+pub record RefusesItem {X C F : Type 0} (refused : ℕ → C → F) (t : Allowed X C F) (items : List (ℕ × X)) (onward : Numbered X F) (why : F) : Type 0 where
+  pub item : ℕ × X
+  pub others : Numbered X F
+  pub cause : C
+  pub is_next : onward ≡ put_item item others
+  pub is_refused : t.of_item items item (Err cause)
+  pub is_fault : why ≡ refused item.0 cause
 
 -- how a text stops behind these items: as the input does, which says no further one, or by the next item, which is refused
 abbrev pub StopsBehind : {X C F : Type 0} → (ℕ → C → F) → Allowed X C F → List (ℕ × X) → Numbered X F → Stop F → Type 0
@@ -36,55 +46,83 @@ pub record IsWholeText {X C F : Type 0} (refused : ℕ → C → F) (t : Allowed
   pub is_text : text ≡ t.first ++ (joined_texts texts ++ stop_text t stop)
   pub finds : has_finding texts ≡ found
 
+-- what may be written next, after these items: a text of the first of those that follow, or the last one
+abbrev pub IsTextOnward : {X C F : Type 0} → (ℕ → C → F) → Allowed X C F → List (ℕ × X) → List (ℕ × X) → Stop F → List ℕ → Type 0
+IsTextOnward refused t before [] stop text = text ≡ stop_text t stop
+IsTextOnward {C = C} refused t before (e ∷ es) stop text = (written : Result (List ℕ × Bool) C) × t.of_item before e written × (text ≡ step_text_to refused t e.0 written)
+
+-- A front of a text of what an input says: what stands first, a text that is allowed for each of the first items, and nothing more or one that may be written next.
+pub record IsFrontText {X C F : Type 0} (refused : ℕ → C → F) (t : Allowed X C F) (said : Numbered X F) (text : List ℕ) : Type 0 where
+  pub items : List (ℕ × X)
+  pub texts : List ItemText
+  pub are_texts : AreAllowedTexts t items texts
+  pub onward : Numbered X F
+  pub says : said ≡ put_items items onward
+  pub next : List ℕ
+  pub is_next : (next ≡ []) ⊎ IsTextOnward refused t items onward.items onward.stop next
+  pub is_text : text ≡ (t.first ++ joined_texts texts) ++ next
+
 -- of each item something may be written, whatever items stand before it
 abbrev pub AllowsEach : {X C F : Type 0} → Allowed X C F → Type 0
 AllowsEach {X = X} {C = C} t = (before : List (ℕ × X)) (e : ℕ × X) → (written : Result (List ℕ × Bool) C) × t.of_item before e written
 
--- a whole text stands written of an input that has ended; something was found or nothing was
-pub record LeavesAll {X C F : Type 0} (refused : ℕ → C → F) (t : Allowed X C F) (said : Numbered X F) (found : Bool) (fault : Option F) (old new : Option (List ℕ)) : Type 0 where
+-- a whole text that begins with this front
+pub record GoesOn {X C F : Type 0} (refused : ℕ → C → F) (t : Allowed X C F) (said : Numbered X F) (front : List ℕ) : Type 0 where
   pub text : List ℕ
-  pub is_whole : IsWholeText refused t said text found finished
+  pub found : Bool
+  pub stop : Stop F
+  pub is_whole : IsWholeText refused t said text found stop
+  pub more : List ℕ
+  pub goes_on : text ≡ front ++ more
+
+-- ---- what a run leaves
+
+-- a whole text stands written of an input that has ended; something was found or nothing was
+pub record LeavesAll {X C F : Type 0} (faults : Faults C F) (t : Allowed X C F) (said : Numbered X F) (found : Bool) (fault : Option F) (old new : Option (List ℕ)) : Type 0 where
+  pub text : List ℕ
+  pub is_whole : IsWholeText faults.refused t said text found finished
   pub by_none : fault ≡ None
   pub written : Appends old new text
 
 -- a whole text stands written that stops by the fault that is handed out, which has this ending
-pub record LeavesToFault {X C F : Type 0} (refused : ℕ → C → F) (failed : F → Bool) (t : Allowed X C F) (said : Numbered X F) (ending : Ending) (fault : Option F) (old new : Option (List ℕ)) : Type 0 where
+pub record LeavesToFault {X C F : Type 0} (faults : Faults C F) (t : Allowed X C F) (said : Numbered X F) (ending : Ending) (fault : Option F) (old new : Option (List ℕ)) : Type 0 where
   pub why : F
   pub text : List ℕ
   pub found : Bool
-  pub is_whole : IsWholeText refused t said text found (faulty why)
+  pub is_whole : IsWholeText faults.refused t said text found (faulty why)
   pub by : fault ≡ Some why
-  pub has_ending : ending_by_fault failed why ≡ ending
+  pub has_ending : ending_by_fault faults.failed why ≡ ending
   pub written : Appends old new text
 
--- a prefix of a whole text stands written, if of each item something may be, and no fault is handed out
-pub record LeavesFront {X C F : Type 0} (refused : ℕ → C → F) (t : Allowed X C F) (said : Numbered X F) (fault : Option F) (old new : Option (List ℕ)) : Type 0 where
+-- a prefix of a front stands written, and no fault is handed out; the front is one of a whole text, if of each item something may be written
+pub record LeavesFront {X C F : Type 0} (faults : Faults C F) (t : Allowed X C F) (said : Numbered X F) (fault : Option F) (old new : Option (List ℕ)) : Type 0 where
   pub by_none : fault ≡ None
-  pub front : AllowsEach t → (text : List ℕ) × (found : Bool) × (stop : Stop F) × IsWholeText refused t said text found stop × AppendsPrefix old new text
+  pub front : List ℕ
+  pub is_front : IsFrontText faults.refused t said front
+  pub written : AppendsPrefix old new front
+  pub of_whole : AllowsEach t → GoesOn faults.refused t said front
 
 -- what stands written of a whole text, by the ending: all where the run ended with the input or by a fault of it, and else a prefix
-abbrev pub LeavesWholeText : {X C F : Type 0} → (ℕ → C → F) → (F → Bool) → Allowed X C F → Ending → Numbered X F → Option F → Option (List ℕ) → Option (List ℕ) → Type 0
-LeavesWholeText refused failed t Done said fault old new = LeavesAll refused t said false fault old new
-LeavesWholeText refused failed t Findings said fault old new = LeavesAll refused t said true fault old new
-LeavesWholeText refused failed t InputFault said fault old new = LeavesToFault refused failed t said InputFault fault old new
-LeavesWholeText refused failed t ReadFault said fault old new = LeavesToFault refused failed t said ReadFault fault old new
-LeavesWholeText refused failed t WriteFault said fault old new = LeavesFront refused t said fault old new
-LeavesWholeText refused failed t Memory said fault old new = LeavesFront refused t said fault old new
+abbrev pub LeavesWholeText : {X C F : Type 0} → Faults C F → Allowed X C F → Ending → Numbered X F → Option F → Option (List ℕ) → Option (List ℕ) → Type 0
+LeavesWholeText faults t Done said fault old new = LeavesAll faults t said false fault old new
+LeavesWholeText faults t Findings said fault old new = LeavesAll faults t said true fault old new
+LeavesWholeText faults t InputFault said fault old new = LeavesToFault faults t said InputFault fault old new
+LeavesWholeText faults t ReadFault said fault old new = LeavesToFault faults t said ReadFault fault old new
+LeavesWholeText faults t WriteFault said fault old new = LeavesFront faults t said fault old new
+LeavesWholeText faults t Memory said fault old new = LeavesFront faults t said fault old new
 
--- a run leaves a whole text of what its input says, whatever that has to keep
-abbrev pub InputsAreWrittenWhole : {X C F : Type 0} → (ℕ → C → F) → (F → Bool) → Allowed X C F → Type 0
-InputsAreWrittenWhole {X = X} {F = F} refused failed t =
-    (said : Numbered X F) (ending : Ending) (fault : Option F) (old new : Option (List ℕ)) →
-    InputRun (λ items. Unit {0}) refused failed t said ending fault old new → LeavesWholeText refused failed t ending said fault old new
+-- these items come first of what an input says, and then what the answer tells
+abbrev pub SaysFirst : {X F : Type 0} → Numbered X F → List (ℕ × X) → AnswerOf X F → Type 0
+SaysFirst {X = X} {F = F} said items answer = (onward : Numbered X F) × (said ≡ put_items items onward) × TellsNext answer onward
 
--- of a capture, and of what is made of each of its events
-abbrev pub CapturesAreWrittenWhole : {A : Type 0} → CaptureText A → Type 0
-CapturesAreWrittenWhole {A} t =
-    (make : Event A → Event A) (ending : Ending) (z : InputEnd) (read : List ℕ) (fault : Option CaptureFault) (old new : Option (List ℕ)) →
-    CaptureWrites make t ending z read fault old new → LeavesWholeText fault_of is_failed_read t ending (with_each make (captured_events z read)) fault old new
+-- of whatever an input says, a run leaves a whole text or a front of one
+abbrev pub InputsAreWrittenWhole : {X C F : Type 0} → Allowed X C F → Type 0
+InputsAreWrittenWhole {X = X} {C = C} {F = F} t =
+    (faults : Faults C F) (said : Numbered X F) (ending : Ending) (fault : Option F) (old new : Option (List ℕ)) →
+    LeavesSo (Unit {0}) (SaysFirst said) faults t ending fault old new → LeavesWholeText faults t ending said fault old new
 
--- of a list, and of what is made of each of its items
-abbrev pub ListsAreWrittenWhole : {S X C : Type 0} → Rules S X C → Allowed X C (ItemFault C) → Type 0
-ListsAreWrittenWhole {S = S} {X = X} {C = C} r t =
-    (s : S) (make : X → X) (ending : Ending) (z : InputEnd) (read : List ℕ) (by : Option (ItemFault C)) (old new : Option (List ℕ)) →
-    MadeWrites r s make t ending z read by old new → LeavesWholeText fault.Line listed.is_failed_read t ending (with_each make (listing r s z 0 read)) by old new
+-- so of this input
+abbrev pub IsWrittenWhole : {X C F : Type 0} → Input X C F → Allowed X C F → Type 0
+IsWrittenWhole {F = F} input t =
+    (ending : Ending) (fault : Option F) (z : InputEnd) (read : List ℕ) (old new : Option (List ℕ)) →
+    Leaves input t ending fault z read old new → LeavesWholeText input.faults t ending (input.says z read) fault old new

@@ -2,7 +2,7 @@
 ghost use Rattle.std.specs.Prelude.{◌≡◌, ◌++◌, ℕ, List, [], IsOk, OnErr, OnOk, length, take};
 ghost use Rattle.list_core.specs.declared.event.Event.{Event};
 ghost use Rattle.object_core.specs.declared.counted.Form.{Form};
-ghost use Rattle.engine_core.specs.EventsText.{AgreesOnNothing, AlikeEvents, EventAllows, in_style, line_in, over_in};
+ghost use Rattle.engine_core.specs.EventsText.{AgreesOnNothing, AlikeEvents, EventAllows, fault_text, in_style, line_in, over_in};
 ghost use Rattle.engine_core.specs.computed.EventStep.{TakesEvent};
 
 use crate::dated::put_dated;
@@ -116,7 +116,7 @@ impl<A: Allocator, F: InputFault + LastLine + LastObject, E: EventEngine<A>> Eng
     for OfEvents<E, A> {
     type Item = Event<A>;
 
-    ghost allows = { λ s. over_in s.style (E.allows s.engine) F.last_line F.last_object };
+    ghost allows = { λ s. over_in s.style (E.allows s.engine) (fault_text F.last_line F.last_object) };
 
     ghost stands = { λ s before. E.stands s.engine before };
 

@@ -1,7 +1,11 @@
 //! Laws about runs. The functions compute nothing.
 ghost use Rattle.engine_core.specs.DatedLaws.{DashGoesAway, DatedAsPlain, DatesGoAway, DatesGoEach};
 ghost use Rattle.engine_core.specs.Laws.{RunsWriteWholeTexts};
-ghost use Rattle.engine_core.specs.WholeRun.{CapturesAreWrittenWhole, InputsAreWrittenWhole, ListsAreWrittenWhole};
+ghost use Rattle.list_core.specs.declared.event.Event.{Event as SpecEvent};
+ghost use Rattle.engine_core.specs.CaptureRun.{capture_input};
+ghost use Rattle.engine_core.specs.MadeRun.{made};
+ghost use Rattle.engine_core.specs.Run.{list_input};
+ghost use Rattle.engine_core.specs.WholeRun.{InputsAreWrittenWhole, IsWrittenWhole};
 
 use crate::running::Engine;
 use capture_core::CaptureFault;
@@ -15,14 +19,14 @@ pub fn runs_write_whole_texts<S, X, C>()
 {}
 
 /// Of a whole text that an engine may write of what its input says, a run leaves all written where it ended with the input or by a
-/// fault, and else a prefix: so of each input, of a capture, and of a list.
+/// fault, and else a prefix of a front: so of each input, of a capture, and of a list.
 pub fn inputs_are_written_whole<A: Allocator, F: InputFault, E: Engine<A, F>>()
-    ensures { (engine : E) → InputsAreWrittenWhole F.refused F.failed (E.allows engine) }
+    ensures { (engine : E) → InputsAreWrittenWhole (E.allows engine) }
 {}
 
 /// The same of a capture, and of what is made of each of its events.
 pub fn captures_are_written_whole<A: Allocator, E: Engine<A, CaptureFault, Item = Event<A>>>()
-    ensures { (engine : E) → CapturesAreWrittenWhole (E.allows engine) }
+    ensures { (engine : E) (make : SpecEvent A → SpecEvent A) → IsWrittenWhole (made make capture_input) (E.allows engine) }
 {}
 
 /// The same of a list, and of what is made of each of its items.
@@ -31,7 +35,7 @@ pub fn lists_are_written_whole<
     G: LineRules<A>,
     E: Engine<A, ItemFault<G::Cause>, Item = G::Item>,
 >()
-    ensures { (engine : E) → ListsAreWrittenWhole G.rules (E.allows engine) }
+    ensures { (engine : E) (rules : G) (make : G.Item → G.Item) → IsWrittenWhole (made make (list_input G.rules rules)) (E.allows engine) }
 {}
 
 /// What `--time` writes of an event is, without the first word of each line, what is written of it without the option; and

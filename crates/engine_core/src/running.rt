@@ -7,8 +7,9 @@ ghost use Rattle.list_core.specs.ItemReader.{item_state};
 ghost use Rattle.list_core.specs.ReadItems.{AnswerOf};
 ghost use Rattle.engine_core.specs.Ending.{ending_by_fault, is_write_fault};
 ghost use Rattle.engine_core.specs.EngineText.{Alike, Allowed, Text, exactly};
-ghost use Rattle.engine_core.specs.Run.{LeavesRefused, Writes, WritesTo};
-ghost use Rattle.engine_core.specs.RunOver.{RunsOver, Stops, ending_by_halt, fault_by_halt};
+ghost use Rattle.engine_core.specs.Input.{reader_of};
+ghost use Rattle.engine_core.specs.Run.{LeavesRefused, Writes, list_input};
+ghost use Rattle.engine_core.specs.RunOver.{Leaves, RunsOver, Stops, ending_by_halt, fault_by_halt, stopped_at};
 ghost use Rattle.engine_core.specs.computed.EngineStep.{StepWrites, Takes, is_failed_write, stops_by};
 
 use crate::ending::Ending;
@@ -189,7 +190,7 @@ fn run_on<
     requires works { W.failed writer.old ≡ false }
     requires first { first.now ≡ (E.allows engine.old).first }
     requires fresh { E.stands engine.old [] }
-    ensures text { RunsOver I.answers F.refused F.failed (E.allows engine.old) items.old result.0 result.1 items.new (W.contents writer.old) (W.contents writer.new) }
+    ensures text { RunsOver (reader_of I.answers I.number F.refused F.failed) (E.allows engine.old) items.old (stopped_at result.0 result.1 items.new) (W.contents writer.old) (W.contents writer.new) }
     ensures fault { W.failed writer.new ≡ is_write_fault result.0 }
 {
     match put_all(writer, first) {
@@ -220,7 +221,7 @@ pub fn run_over<
     requires works { W.failed writer.old ≡ false }
     requires first { first.now ≡ (E.allows engine).first }
     requires fresh { E.stands engine [] }
-    ensures text { RunsOver I.answers F.refused F.failed (E.allows engine) items result.ending result.fault result.reader (W.contents writer.old) (W.contents writer.new) }
+    ensures text { RunsOver (reader_of I.answers I.number F.refused F.failed) (E.allows engine) items result (W.contents writer.old) (W.contents writer.new) }
     ensures fault { W.failed writer.new ≡ is_write_fault result.ending }
 {
     let (ending, fault) = run_on(alloc, &mut engine, first, &mut items, writer);
@@ -252,7 +253,7 @@ pub fn run_to_stop<
     requires first { first.now ≡ (E.allows engine).first }
     requires fresh { E.stands engine [] }
     ensures text { (t : Text G.Item G.Cause) → Alike (E.allows engine) (exactly t) → (given : List ℕ) × GivesOctets (R.left reader) (item_state R.left R.ending result.reader).left given
-        × WritesTo G.rules rules t result.ending (item_state R.left R.ending result.reader).ending given (W.contents writer.old) (W.contents writer.new) result.fault }
+        × Leaves (list_input G.rules rules) (exactly t) result.ending result.fault (item_state R.left R.ending result.reader).ending given (W.contents writer.old) (W.contents writer.new) }
     ensures read_fault { result.ending ≡ Ending.ReadFault → (item_state R.left R.ending result.reader).ending ≡ InputEnd.Failed }
     ensures fault { W.failed writer.new ≡ is_write_fault result.ending }
 {

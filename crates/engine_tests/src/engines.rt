@@ -5,8 +5,8 @@ ghost use Rattle.list_core.specs.declared.device.InputEnd.{InputEnd};
 use crate::losses;
 use crate::losses::{AT_END, tell_losses};
 use engine_core::Style;
-use frame_core::{EventLines, ItemReader, Sink, Source};
 use goose_cmd::{Ending, blocks, check, import, publish, read_block, replay, rewrite, show, watch};
+use list_core::{EventLines, ItemReader, Sink, Source};
 use object_core::Form;
 use std::alloc::Allocator;
 use subscribe_core::Block;
@@ -258,8 +258,10 @@ pub(super) fn places_of(example: Example) -> &'static [usize] {
         Example::FaultyRewrite => &[0, 1, 2, 3],
         Example::FaultyWatch => &[2, 3],
         Example::FaultyLosses => &[3],
-        Example::Losses => &[3, 3, 4, 5, 5, 6, 6, 6, 6, 6, AT_END, AT_END, AT_END, AT_END],
-        Example::CountedLosses => &[3, 3, 4, 5, 5, AT_END, AT_END, AT_END],
+        Example::Losses => &[
+            3, 3, 4, 5, 5, 6, 6, 6, 6, 6, 8, AT_END, AT_END, AT_END, AT_END,
+        ],
+        Example::CountedLosses => &[3, 3, 4, 5, 5, 6, 8, AT_END, AT_END, AT_END],
         Example::FaultyPublish | Example::RefusedPublish => &[0, 3, 4],
         Example::Floats => &[2],
         Example::MarkedShow => &[2, 3, 5],

@@ -23,6 +23,8 @@ mod limits;
 #[cfg(test)]
 mod losses;
 #[cfg(test)]
+mod runs;
+#[cfg(test)]
 mod scripts;
 #[cfg(test)]
 mod styles;

@@ -2,7 +2,7 @@
 
 use goose_cmd::{Ending, publish};
 use std::alloc::{AllocError, Global};
-use test_devices::{NEVER, sink_of, source_of};
+use test_support::{NEVER, sink_of, source_of};
 
 // Puts a step and the line of a change to an octet string of so many octets, 256 to 65,535.
 fn put_script(script: &mut Vec<u8>, size: &[u8], octets: u32) -> Result<(), AllocError> {

@@ -1,11 +1,10 @@
 //! The lines of a script where memory is refused, at each growth in turn: once it is granted, the same line is read again.
 
 use ber_core::Cause;
-use frame_core::{ItemError, ItemFault, ItemReader, Source};
+use list_core::{ItemError, ItemFault, ItemReader, Source};
 use script_core::{ScriptCause, ScriptItem, ScriptLines};
 use std::alloc::{Allocator, Global};
-use test_devices::{NEVER, source_of};
-use test_support::RefusingAlloc;
+use test_support::{NEVER, RefusingAlloc, source_of};
 
 // A script of each kind of line. The values of its first change are a boolean, two octets, and a structure of a boolean.
 const SCRIPT: &[u8] =

@@ -7,9 +7,9 @@ use crate::losses;
 use crate::losses::tell_losses;
 use engine_core::{Ending, Style};
 use exchange_engines::{replay_over, watch_over};
-use frame_core::{EventLines, ItemReader, Sink, Source};
 use frame_engines::{check_over, show_over};
 use inventory_engine::blocks_over;
+use list_core::{EventLines, ItemReader, Sink, Source};
 use object_core::{Counted, Form};
 use std::alloc::Allocator;
 

@@ -9,7 +9,6 @@ use Rattle.list_core.specs.declared.event_lines.EventLines.TheVariants.{First}
 use Rattle.list_core.specs.declared.line_rules.ItemFault.{ItemFault}
 use Rattle.list_core.specs.declared.list_fault.ListCause.{ListCause}
 use Rattle.list_core.specs.EventLine.{event_rules}
-use Rattle.list_core.specs.ReadItems.{AnswerOf}
 use Rattle.list_core.specs.ListReader.{list_fault_of}
 use Rattle.block_core.specs.declared.block.Block.{Block}
 use Rattle.subscribe_core.specs.declared.entry.Entry.{Entry}
@@ -17,14 +16,16 @@ use Rattle.subscribe_core.specs.Entries.{AreEntriesAt}
 use Rattle.subscribe_core.specs.Apart.{AreApart, IsFirstTwice}
 use Rattle.engine_core.specs.declared.ending.Ending.{Ending}
 use Rattle.engine_core.specs.declared.ending.Ending.TheVariants.{Done, Findings, InputFault, ReadFault, WriteFault, Memory}
-use Rattle.engine_core.specs.EngineText.{Text}
+use Rattle.engine_core.specs.EngineText.{Text, exactly}
+use Rattle.engine_core.specs.declared.stopped.Stopped.{Stopped}
 use Rattle.engine_core.specs.declared.style.Style.{Style}
-use Rattle.engine_core.specs.EventsText.{EventAllows, EventText, RunsSome, line_in}
-use Rattle.engine_core.specs.Run.{IsUntouched, LeavesRefused, WritesSome, ended_by}
+use Rattle.engine_core.specs.declared.style.Style.TheVariants.{Lines}
+use Rattle.engine_core.specs.EventsText.{EventAllows, EventText, FaultText, line_in, over_in}
+use Rattle.engine_core.specs.Input.{Reader}
+use Rattle.engine_core.specs.Run.{LeavesRefused, list_input}
+use Rattle.engine_core.specs.RunOver.{IsUntouched, Leaves, OfKind, RunsOver, stopped_at}
 use Rattle.exchange_engines.specs.declared.engines.replay.ReplayStop.{ReplayStop}
 use Rattle.exchange_engines.specs.declared.engines.replay.ReplayStop.TheVariants as stop
-use Rattle.exchange_engines.specs.declared.engines.replay.ReplayFault.{ReplayFault}
-use Rattle.exchange_engines.specs.declared.engines.replay.ReplayFault.TheVariants as of
 use Rattle.object_core.specs.declared.counted.Form.{Form}
 use Rattle.object_core.specs.declared.counted.Form.TheVariants as forms
 use Rattle.exchange_engines.specs.EntryObject.{AreEntryObjects, twice_object}
@@ -72,60 +73,26 @@ twice_line i = codes "blocks SameBlockTwice " ++ decimal i ++ codes "\n"
 abbrev pub LeavesTold : List ℕ → Ending → Option (List ℕ) → Option (List ℕ) → Type 0
 LeavesTold text ending old new = LeavesRefused text ending old new ⊎ ((ending ≡ Memory) × (new ≡ old))
 
--- its line, by its position
-abbrev pub LeavesTwice : ℕ → Ending → Option (List ℕ) → Option (List ℕ) → Type 0
-LeavesTwice position ending old new = LeavesTold (twice_line position) ending old new
-
--- the same in a style: its line or its object
+-- its line or its object in a style, by its position
 abbrev pub LeavesTwiceIn : {A : Type 0} → Style → List (Block A) → ℕ → Ending → Option (List ℕ) → Option (List ℕ) → Type 0
 LeavesTwiceIn style blocks position ending old new = LeavesTold (line_in style (twice_line position) (twice_object blocks position)) ending old new
 
--- A block is given twice, the first one at this position: the reader is untouched, and the line that says so is written, unless memory is refused for it.
-pub record RefusesTwice {A : Type 0} (blocks : List (Block A)) (ending : Ending) (z : InputEnd) (read : List ℕ) (old new : Option (List ℕ)) : Type 0 where
+-- A block is given twice, the first one at this position: what would be read is untouched, and the line or the object that says so is written in a style, unless memory is refused for it.
+pub record RefusesTwice {A : Type 0} (Untouched : Type 0) (style : Style) (blocks : List (Block A)) (ending : Ending) (old new : Option (List ℕ)) : Type 0 where
   pub position : ℕ
   pub is_twice : IsFirstTwice blocks position
-  pub untouched : IsUntouched Open z read
-  pub written : LeavesTwice position ending old new
+  pub untouched : Untouched
+  pub written : LeavesTwiceIn style blocks position ending old new
 
--- The blocks are apart, but memory is refused for what a subscriber of them keeps: the reader is untouched, and nothing is written.
-pub record KeepsNone {A : Type 0} (blocks : List (Block A)) (ending : Ending) (z : InputEnd) (read : List ℕ) (old new : Option (List ℕ)) : Type 0 where
+-- The blocks are apart, but memory is refused for what a subscriber of them keeps: what would be read is untouched, and nothing is written.
+pub record KeepsNone {A : Type 0} (Untouched : Type 0) (blocks : List (Block A)) (ending : Ending) (old new : Option (List ℕ)) : Type 0 where
   pub wants_memory : ending ≡ Memory
   pub are_apart : AreApart blocks
   pub are_some : blocks ≡ [] → ⊥
-  pub untouched : IsUntouched Open z read
+  pub untouched : Untouched
   pub none_written : new ≡ old
 
--- The blocks are apart, and the text of their replay is written.
-pub record RunsReplay {A : Type 0} (blocks : List (Block A)) (ending : Ending) (z : InputEnd) (read : List ℕ) (old new : Option (List ℕ)) : Type 0 where
-  pub are_apart : AreApart blocks
-  pub runs : WritesSome (IsReplayText blocks) event_rules First ending z read old new
-
--- what a replay of these blocks leaves written of what was read
-abbrev pub ReplayWrites : {A : Type 0} → List (Block A) → Ending → InputEnd → List ℕ → Option (List ℕ) → Option (List ℕ) → Type 0
-ReplayWrites blocks ending z read old new = RefusesTwice blocks ending z read old new ⊎ KeepsNone blocks ending z read old new ⊎ RunsReplay blocks ending z read old new
-
--- the fault by which a replay ends so that was given a block twice, the first one at this position: none, unless its line was written
-abbrev pub twice_fault : Ending → ℕ → Option ReplayFault
-twice_fault Done position = None
-twice_fault Findings position = None
-twice_fault InputFault position = Some (of.SameBlockTwice position)
-twice_fault ReadFault position = None
-twice_fault WriteFault position = None
-twice_fault Memory position = None
-
--- the fault by which a replay ended, if it ended by one
-abbrev pub replay_ended_by : {A : Type 0} (blocks : List (Block A)) (ending : Ending) (z : InputEnd) (read : List ℕ) (old new : Option (List ℕ)) → ReplayWrites blocks ending z read old new → Option ReplayFault
-replay_ended_by blocks ending z read old new (inl twice) = twice_fault ending twice.position
-replay_ended_by blocks ending z read old new (inr (inl none)) = None
-replay_ended_by blocks ending z read old new (inr (inr ran)) = option_map of.List (ended_by event_rules First ran.runs.text ending z read old new ran.runs.run)
-
--- what a replay of these blocks leaves written of what was read, and the fault by which it ended
-abbrev pub ReplayWritesTo : {A : Type 0} → List (Block A) → Ending → InputEnd → List ℕ → Option (List ℕ) → Option (List ℕ) → Option ReplayFault → Type 0
-ReplayWritesTo blocks ending z read old new fault = (replay : ReplayWrites blocks ending z read old new) × (fault ≡ replay_ended_by blocks ending z read old new replay)
-
--- ---- over any reader of events
-
--- the same of a replay over any input
+-- why a replay stops that was given a block twice, the first one at this position: for nothing, unless its line was written
 abbrev pub twice_stop : {F : Type 0} → Ending → ℕ → Option (ReplayStop F)
 twice_stop Done position = None
 twice_stop Findings position = None
@@ -134,31 +101,30 @@ twice_stop ReadFault position = None
 twice_stop WriteFault position = None
 twice_stop Memory position = None
 
--- A block is given twice, the first one at this position: the reader is untouched, and the line that says so is written, unless memory is refused for it.
-pub record RefusesTwiceOver {A I F : Type 0} (style : Style) (blocks : List (Block A)) (start : I) (ending : Ending) (why : Option (ReplayStop F)) (end : I) (old new : Option (List ℕ)) : Type 0 where
-  pub position : ℕ
-  pub is_twice : IsFirstTwice blocks position
-  pub untouched : end ≡ start
-  pub written : LeavesTwiceIn style blocks position ending old new
-  pub by : why ≡ twice_stop ending position
-
--- The blocks are apart, but memory is refused for what a subscriber of them keeps: the reader is untouched, and nothing is written.
-pub record KeepsNoneOver {A I F : Type 0} (blocks : List (Block A)) (start : I) (ending : Ending) (why : Option (ReplayStop F)) (end : I) (old new : Option (List ℕ)) : Type 0 where
-  pub wants_memory : ending ≡ Memory
-  pub are_apart : AreApart blocks
-  pub are_some : blocks ≡ [] → ⊥
-  pub untouched : end ≡ start
-  pub none_written : new ≡ old
-  pub by_none : why ≡ None
-
--- The blocks are apart, and the text of their replay is written.
-pub record RunsReplayOver {A I C F : Type 0} (style : Style) (blocks : List (Block A)) (answers : I → AnswerOf (Event A) F → I → Type 0) (refused : ℕ → C → F) (failed : F → Bool) (last_line last_object : F → List ℕ) (start : I) (ending : Ending) (why : Option (ReplayStop F)) (end : I) (old new : Option (List ℕ)) : Type 0 where
+-- The blocks are apart, and what is written of their entries is left so, where the run ends by this fault of the input; for that the replay stops.
+pub record Replays {A F : Type 0} (blocks : List (Block A)) (IsLeft : Option F → Type 0) (why : Option (ReplayStop F)) : Type 0 where
   pub are_apart : AreApart blocks
   pub fault : Option F
   pub by : why ≡ option_map stop.Input fault
-  pub runs : RunsSome style (AreSaid blocks) (entries_in blocks) answers refused failed last_line last_object start ending fault end old new
+  pub is_left : IsLeft fault
+
+-- what a replay of these blocks leaves of what is untouched so, or of which their entries are left so; and why it stops
+abbrev pub ReplaysSo : {A F : Type 0} → Type 0 → Style → List (Block A) → (Option F → Type 0) → Ending → Option (ReplayStop F) → Option (List ℕ) → Option (List ℕ) → Type 0
+ReplaysSo Untouched style blocks IsLeft ending why old new =
+    ((twice : RefusesTwice Untouched style blocks ending old new) × (why ≡ twice_stop ending twice.position))
+    ⊎ (KeepsNone Untouched blocks ending old new × (why ≡ None)) ⊎ Replays blocks IsLeft why
+
+-- what a replay of these blocks leaves written of a list of which these octets were read, and why it stops
+abbrev pub ReplayWritesTo : {A : Type 0} → List (Block A) → Ending → Option (ReplayStop (ItemFault ListCause)) → InputEnd → List ℕ → Option (List ℕ) → Option (List ℕ) → Type 0
+ReplayWritesTo blocks ending why z read old new =
+    ReplaysSo (IsUntouched Open z read) (Lines forms.Text) blocks (λ fault. OfKind (IsReplayText blocks) (λ t. Leaves (list_input event_rules First) (exactly t) ending fault z read old new)) ending why old new
+
+-- the same, whatever it stops for
+abbrev pub ReplayWrites : {A : Type 0} → List (Block A) → Ending → InputEnd → List ℕ → Option (List ℕ) → Option (List ℕ) → Type 0
+ReplayWrites blocks ending z read old new = (why : Option (ReplayStop (ItemFault ListCause))) × ReplayWritesTo blocks ending why z read old new
 
 -- what a replay of these blocks over a reader of events leaves, and why it stops
-abbrev pub ReplaysOver : {A I C F : Type 0} → Style → List (Block A) → (I → AnswerOf (Event A) F → I → Type 0) → (ℕ → C → F) → (F → Bool) → (F → List ℕ) → (F → List ℕ) → I → Ending → Option (ReplayStop F) → I → Option (List ℕ) → Option (List ℕ) → Type 0
-ReplaysOver style blocks answers refused failed last_line last_object start ending why end old new =
-    RefusesTwiceOver style blocks start ending why end old new ⊎ KeepsNoneOver blocks start ending why end old new ⊎ RunsReplayOver style blocks answers refused failed last_line last_object start ending why end old new
+abbrev pub ReplaysOver : {A I C F : Type 0} → Style → List (Block A) → Reader I (Event A) C F → FaultText F → I → Stopped I (ReplayStop F) → Option (List ℕ) → Option (List ℕ) → Type 0
+ReplaysOver style blocks reader last start stopped old new =
+    ReplaysSo (stopped.reader ≡ start) style blocks
+    (λ fault. OfKind (AreSaid blocks) (λ says. RunsOver reader (over_in style (entries_in blocks says) last) start (stopped_at stopped.ending fault stopped.reader) old new)) stopped.ending stopped.fault old new

@@ -1,6 +1,6 @@
 -- The cause of a fault behind the EtherType of a frame is another one: a frame whose first fault has that cause is one of another
 -- protocol.
-use Rattle.std.proofs.Common.{◌≡◌, ◌⊎◌, inl, inr, ℕ, ◌+◌, ◌≤◌, Bool, true, false, leb, List, [], ◌∷◌, length, refl, subst, sym, ap, ◌∙◌, ℤ, arith}
+use Rattle.std.proofs.Common.{◌≡◌, ◌⊎◌, inl, inr, ℕ, ◌+◌, Bool, true, false, leb, List, [], ◌∷◌, length, refl, subst, sym, ap, ◌∙◌, ℤ, arith}
 use Rattle.std.proofs.lemmas.Bool.Decides.{nat_tests}
 use Rattle.ber_core.specs.Contents.{IntegerFault, no_octet, over_nine, outside}
 use Rattle.ber_core.specs.Faults.{LengthFault, fault_of, absent as no_length, cut, indefinite, form, past_end}
@@ -19,7 +19,7 @@ use Rattle.mms_data.specs.declared.kinds.SimpleKind.TheVariants as kinds
 use Rattle.pdu_core.specs.Contents.{ContentsFault, Kind, contents_grammar}
 use Rattle.pdu_core.specs.Contents as contents
 use Rattle.pdu_core.specs.Goose.{GooseFault, in_fields, in_entry_count, apdu_grammar}
-use Rattle.pdu_core.specs.Sampled.{SvContentsFault, SvFault, SvKind, asdu_grammar, in_asdu_count, in_sv_fields, sv_apdu_grammar, sv_fields, sv_grammar}
+use Rattle.pdu_core.specs.Sampled.{SvFault, asdu_grammar, in_asdu_count, in_sv_fields, sv_apdu_grammar, sv_grammar}
 use Rattle.pdu_core.specs.Sampled as sampled
 use Rattle.frame_core.specs.Apdu.{ApduFault, IsApduType, in_goose, in_sampled}
 use Rattle.frame_core.specs.Envelope.{ether_place, word_at}

@@ -1,5 +1,4 @@
-//! Frames of GOOSE (IEC 61850-8-1) and of Sampled Values (IEC 61850-9-2) as they stand on the wire. What is said of the
-//! lists that they are kept in is passed on from `list_core`.
+//! Frames of GOOSE (IEC 61850-8-1) and of Sampled Values (IEC 61850-9-2) as they stand on the wire.
 #![tactic(auto)]
 
 mod decoding;
@@ -27,10 +26,3 @@ pub use crate::skip_other::SkipOther;
 pub use crate::view_encoding::{encode_view, written_length};
 pub use crate::viewing::{see_frame, view_frame};
 pub use crate::vlan_tag::VlanTag;
-pub use list_core::{
-    DeviceFault, Event, EventKind, EventLines, FrameLines, FromRead, InputEnd, InputFault,
-    ItemError, ItemFault, ItemReader, LineError, LineReader, LineRules, ListCause, ListError,
-    ListFault, ListReader, MomentUnit, ReadError, ReadItems, Sink, Source, ToWrite, WriteFault,
-    cut_first, decimal_in, fault_of_list, hexadecimal_digit, moment_in, put_all, write_digits,
-    write_event, write_frame,
-};

@@ -14,7 +14,7 @@ use Rattle.capture_core.specs.RecordAnswers.{WithinRecord}
 use Rattle.capture_core.specs.declared.form.CaptureForm.{CaptureForm}
 use Rattle.capture_core.specs.declared.capture_fault.CaptureFault.{CaptureFault}
 use Rattle.engine_core.specs.Ending.{ending_by_fault}
-use Rattle.engine_core.specs.Run.{IsUntouched}
+use Rattle.engine_core.specs.RunOver.{IsUntouched}
 use Rattle.engine_core.specs.declared.ending.Ending.{Ending}
 use Rattle.engine_core.specs.declared.ending.Ending.TheVariants.{Done, Findings, InputFault, ReadFault, WriteFault, Memory}
 use Rattle.text_core.specs.LineText.{capture_line}
@@ -101,7 +101,9 @@ pub record ImportsPrefix (before z : InputEnd) (given : List ℕ) (old new : Opt
   pub prefix : AppendsPrefix old new (import_text (capture z given))
   pub fails_at : IsUntouched before z given ⊎ FailsBehind z given old new
 
--- What `import` leaves written of the octets that a reader gave, with the endings that it told before and tells after: the whole text at Done and Findings, and at InputFault and ReadFault, where nothing is read behind the record of the fault; a prefix of it at WriteFault. It never wants memory.
+-- What `import` leaves written of the octets that a reader gave, with the endings that it told before and tells after: the whole text at
+-- Done and Findings, and at InputFault and ReadFault, where nothing is read behind the record of the fault; a prefix of it at WriteFault. It
+-- never wants memory.
 abbrev pub Imports : InputEnd → Ending → InputEnd → List ℕ → Option (List ℕ) → Option (List ℕ) → Type 0
 Imports before Done z given old new = ImportsToEnd false (capture z given) old new
 Imports before Findings z given old new = ImportsToEnd true (capture z given) old new

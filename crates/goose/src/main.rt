@@ -20,17 +20,18 @@ use crate::messages::block_fields::block_fault;
 use crate::messages::failure::Failure;
 use crate::messages::passed::passed_frames;
 use crate::messages::unheard::Unheard;
+use crate::messages::unjudged::unjudged_streams;
 use crate::output::Output;
 use crate::patient::Patient;
 use clap::error::ErrorKind as WordsErrorKind;
 use engine_core::{Ending, status};
 use frame_core::PassedOver;
 use list_core::{FromRead, ToWrite};
-use std::alloc::AllocError;
+use std::alloc::{AllocError, Global};
 use std::io::{BufReader, ErrorKind, IsTerminal};
 use std::process::ExitCode;
 use std::{env, io};
-use task_engine::{Intake, Performed, Told, advice_by_head, perform_request};
+use task_engine::{Intake, Performed, Told, Unjudged, advice_by_head, perform_request};
 use words_core::{Options, Request, Task, WordsError, read_request};
 
 // What is not inlined here needs much of the stack, which is free again when a task runs.
@@ -55,10 +56,12 @@ fn advice_on(kind: WordsErrorKind) -> Option<&'static str> {
     }
 }
 
-// Says that a device failed, and why as far as it is known, and answers the exit status.
+// Says that a device failed, and why as far as it is known, and answers the exit status. Whoever reads no further has what was
+// wanted, and nothing is said.
 #[inline(never)]
 fn answer_failure(rt: &HostRuntime, failure: Option<Failure>) -> u8 {
     let _ = match failure {
+        Some(failure) if failure.is_reader_gone() => Ok(()),
         Some(failure) => eprintln!(Console::of(rt); "read or write fault: {failure}"),
         None => Console::of(rt).eprintln("read or write fault"),
     };
@@ -222,6 +225,14 @@ fn say_passed(rt: &HostRuntime, command: &str, passed: &PassedOver) {
     }
 }
 
+// Says which streams were not judged, if any were not.
+#[inline(never)]
+fn say_unjudged(rt: &HostRuntime, command: &str, unjudged: &Unjudged<Global>) {
+    if let Some(unjudged) = unjudged_streams(unjudged) {
+        let _ = eprintln!(Console::of(rt); "goose {command}: {unjudged}");
+    }
+}
+
 // Runs a task from standard input to standard output, and answers the exit status.
 fn run(rt: &HostRuntime, request: Request, words: &[&str]) -> u8
     requires { HasPeriod (asked_by request.task) }
@@ -231,7 +242,7 @@ fn run(rt: &HostRuntime, request: Request, words: &[&str]) -> u8
         return status(&Ending::Memory);
     };
     let seen = Seen::new();
-    // The reader has much room of its own; it stays here, and is not handed on with each result.
+    // The reader owns a large buffer; it stays here, and is not moved with each result.
     let mut standard = rt.reader();
     let input = Input::new(Patient::new(rt, &mut standard), &output, &seen);
     let Ok(input) = BufReader::with_capacity(rt.alloc(), BLOCK, input) else {
@@ -241,6 +252,7 @@ fn run(rt: &HostRuntime, request: Request, words: &[&str]) -> u8
     let intake = intake_of(&task, options);
     say_awaited(rt, command, intake);
     let mut heard = flags_for(rt, &task);
+    let mut unjudged = Unjudged::new(rt.alloc());
     let mut writer = ToWrite::new(&output);
     let Performed {
         ending,
@@ -253,6 +265,7 @@ fn run(rt: &HostRuntime, request: Request, words: &[&str]) -> u8
         options,
         FromRead::new(input),
         heard.as_mut_slice(),
+        &mut unjudged,
         &mut writer,
     );
     let is_written = ending != Ending::WriteFault && output.hand_on().is_ok();
@@ -264,6 +277,7 @@ fn run(rt: &HostRuntime, request: Request, words: &[&str]) -> u8
     if let Some(passed) = &passed {
         say_passed(rt, command, passed);
     }
+    say_unjudged(rt, command, &unjudged);
     match told {
         Some(told) => say_stop(rt, command, told, intake, seen.into_head().as_slice()),
         None if ending == Ending::Done => say_unheard(rt, words, heard.as_slice()),

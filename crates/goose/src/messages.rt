@@ -5,3 +5,4 @@ pub mod block_fields;
 pub mod failure;
 pub mod passed;
 pub mod unheard;
+pub mod unjudged;

@@ -1,4 +1,4 @@
-//! The engines of `goose` but `losses`, and its command line, under one name; laws about what they write.
+//! The engines of `goose` but `losses`, its command line and the laws, under one name.
 #![tactic(auto)]
 
 pub mod laws;

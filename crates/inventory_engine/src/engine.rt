@@ -8,8 +8,11 @@ ghost use Rattle.list_core.specs.EventLine.{event_rules};
 ghost use Rattle.engine_core.specs.Ending.{is_write_fault};
 ghost use Rattle.list_core.specs.ItemReader.{item_state};
 ghost use Rattle.engine_core.proofs.EventSteps.{exactly_agrees};
-ghost use Rattle.engine_core.specs.EventsText.{RunsSome, exactly_each, exactly_event};
-ghost use Rattle.engine_core.specs.Run.{WritesSome, WritesSomeTo};
+ghost use Rattle.engine_core.specs.EngineText.{exactly};
+ghost use Rattle.engine_core.specs.EventsText.{exactly_each, exactly_event, fault_text, over_in};
+ghost use Rattle.engine_core.specs.Input.{reader_of};
+ghost use Rattle.engine_core.specs.Run.{WritesSome, list_input};
+ghost use Rattle.engine_core.specs.RunOver.{Leaves, OfKind, RunsOver};
 ghost use Rattle.inventory_engine.specs.Sightings.{sightings_in};
 ghost use Rattle.inventory_engine.specs.BlocksText.{AreBlocksTexts, IsBlocksText};
 ghost use Rattle.inventory_engine.specs.computed.BlocksStep.{Keeps, blocks_event};
@@ -17,9 +20,10 @@ ghost use Rattle.inventory_engine.specs.computed.BlocksStep.{Keeps, blocks_event
 use crate::inventory::Inventory;
 use crate::sighting::put_event;
 use engine_core::{Ending, EventEngine, OfEvents, Stopped, Style, run_over, run_to_stop};
-use frame_core::{Event, EventLines, ItemFault, ItemReader, ListCause, Sink, Source};
 use known_core::Runs;
-use list_core::{InputFault, ReadItems};
+use list_core::{
+    Event, EventLines, InputFault, ItemFault, ItemReader, ListCause, ReadItems, Sink, Source,
+};
 use object_core::{Form, Heading, LastObject};
 use std::alloc::{AllocError, Allocator};
 use text_core::LastLine;
@@ -94,7 +98,7 @@ pub fn blocks_to_stop<A: Allocator + Copy, R: Source, W: Sink>(
     requires open { R.ending reader ≡ InputEnd.Open }
     requires works { W.failed writer.old ≡ false }
     ensures text { (given : List ℕ) × GivesOctets (R.left reader) (item_state R.left R.ending result.reader).left given
-        × WritesSomeTo (IsBlocksText {A = A}) event_rules First result.ending (item_state R.left R.ending result.reader).ending given (W.contents writer.old) (W.contents writer.new) result.fault }
+        × OfKind (IsBlocksText {A = A}) (λ t. Leaves (list_input event_rules First) (exactly t) result.ending result.fault (item_state R.left R.ending result.reader).ending given (W.contents writer.old) (W.contents writer.new)) }
     ensures read_fault { result.ending ≡ Ending.ReadFault → (item_state R.left R.ending result.reader).ending ≡ InputEnd.Failed }
     ensures fault { W.failed writer.new ≡ is_write_fault result.ending }
 {
@@ -119,7 +123,7 @@ pub fn blocks_over<
     W: Sink,
 >(alloc: A, style: Style, events: I, writer: &mut W) -> Stopped<I, F>
     requires works { W.failed writer.old ≡ false }
-    ensures text { RunsSome style (AreBlocksTexts {A = A}) exactly_each I.answers F.refused F.failed F.last_line F.last_object events result.ending result.fault result.reader (W.contents writer.old) (W.contents writer.new) }
+    ensures text { OfKind (AreBlocksTexts {A = A}) (λ texts. RunsOver (reader_of I.answers I.number F.refused F.failed) (over_in style (exactly_each texts) (fault_text F.last_line F.last_object)) events result (W.contents writer.old) (W.contents writer.new)) }
     ensures fault { W.failed writer.new ≡ is_write_fault result.ending }
 {
     let listing = Listing {

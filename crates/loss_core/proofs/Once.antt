@@ -166,7 +166,7 @@ tells_once period (Some k) s c d u v = elim u [
     | inl y ↦ absurd (false≢true (sym y.0 ∙ x.0))
     | inr y ↦
         let one : x.1.1.0 ≡ y.1.1.0 = nearest_once period (s.moment - k.moment) (way_round period k.count s.count) x.1.1.0 y.1.1.0 x.1.1.1 y.1.1.1 in
-        x.1.2 ∙ (ap (by_advance k.run) (x.1.1.2 ∙ (ap (advance_of period) one ∙ sym y.1.1.2)) ∙ sym y.1.2)
+        x.1.2 ∙ (ap (by_advance k.run k.ahead) (x.1.1.2 ∙ (ap (advance_of period) one ∙ sym y.1.1.2)) ∙ sym y.1.2)
   ]
 ]
 

@@ -59,7 +59,14 @@ came_told period count came.Next = []
 came_told period count (came.Missing n) = SamplesMissing (first_missing period count n) n ∷ []
 came_told period count came.Repeated = SampleRepeated count ∷ []
 came_told period count came.Late = SampleLate count ∷ []
+came_told period count came.BeforeFirst = []
 came_told period count came.OutOfRange = OutOfRange count ∷ []
+
+-- the same, where a period is given, by which the count was judged; and else nothing
+abbrev pub count_told : Option ℕ → ℕ → Option Came → List Finding
+count_told None count came = []
+count_told (Some period) count None = []
+count_told (Some period) count (Some came) = came_told period count came
 
 -- smpSynch is another than in the ASDU before
 abbrev pub synch_told : Option ℕ → ℕ → List Finding

@@ -2,9 +2,8 @@
 use Rattle.std.specs.Prelude.{◌≡◌, ℕ, ◌+◌, ◌-◌, ◌*◌, ◌%◌, ◌<◌, nat_lt, if◌then◌else◌, List, [], ◌∷◌, map}
 use Rattle.loss_core.specs.declared.stream.Sample.{Sample}
 use Rattle.loss_core.specs.declared.stream.Came.{Came}
-use Rattle.loss_core.specs.declared.stream.Came.TheVariants as came
 use Rattle.loss_core.specs.Advance.{distance}
-use Rattle.loss_core.specs.Stream.{AreSamplesTold}
+use Rattle.loss_core.specs.Stream.{AreSamplesTold, go_on}
 
 -- a sample as it was taken: its index without bound, of which the count is the rest by the period, and the moment at which it came
 pub record Taken : Type 0 where
@@ -30,20 +29,6 @@ KeepTime period greatest (t ∷ ts) =
 abbrev pub greatest_index : Taken → List Taken → ℕ
 greatest_index greatest [] = greatest.index
 greatest_index greatest (t ∷ ts) = greatest_index (later greatest t) ts
-
--- how many samples an answer goes on
-abbrev pub goes_on : Came → ℕ
-goes_on came.First = 0
-goes_on came.Next = 1
-goes_on (came.Missing n) = n + 1
-goes_on came.Repeated = 0
-goes_on came.Late = 0
-goes_on came.OutOfRange = 0
-
--- how many several answers go on
-abbrev pub go_on : List Came → ℕ
-go_on [] = 0
-go_on (c ∷ cs) = goes_on c + go_on cs
 
 -- Over samples that keep time so, what is said to go on and to be missing adds up to the greatest index minus the first, however long samples stay away.
 abbrev pub SamplesAddUp : Type 0

@@ -12,6 +12,7 @@ missing_before came.Next = 0
 missing_before (came.Missing n) = n
 missing_before came.Repeated = 0
 missing_before came.Late = 0
+missing_before came.BeforeFirst = 0
 missing_before came.OutOfRange = 0
 
 -- samples are missing before it
@@ -21,6 +22,7 @@ is_behind_outage came.Next = false
 is_behind_outage (came.Missing n) = true
 is_behind_outage came.Repeated = false
 is_behind_outage came.Late = false
+is_behind_outage came.BeforeFirst = false
 is_behind_outage came.OutOfRange = false
 
 -- it is late
@@ -30,6 +32,7 @@ is_late_sample came.Next = false
 is_late_sample (came.Missing n) = false
 is_late_sample came.Repeated = false
 is_late_sample came.Late = true
+is_late_sample came.BeforeFirst = false
 is_late_sample came.OutOfRange = false
 
 -- it came before
@@ -39,6 +42,7 @@ is_repeated_sample came.Next = false
 is_repeated_sample (came.Missing n) = false
 is_repeated_sample came.Repeated = true
 is_repeated_sample came.Late = false
+is_repeated_sample came.BeforeFirst = false
 is_repeated_sample came.OutOfRange = false
 
 -- its count is out of range
@@ -48,6 +52,7 @@ is_out_of_range came.Next = false
 is_out_of_range (came.Missing n) = false
 is_out_of_range came.Repeated = false
 is_out_of_range came.Late = false
+is_out_of_range came.BeforeFirst = false
 is_out_of_range came.OutOfRange = true
 
 -- the sum of a number over what samples tell

@@ -23,7 +23,7 @@ pub enum Finding {
     SamplesMissing(u16, u64),
     /// A sample with this count that came before.
     SampleRepeated(u16),
-    /// A sample with this count from before the unbroken run.
+    /// A sample with this count from before the unbroken run, and not from before the first sample.
     SampleLate(u16),
     /// A count that is not below the period.
     OutOfRange(u16),

@@ -1,8 +1,8 @@
 //! What is told of a frame and of a sample.
 
-ghost use Rattle.std.specs.Prelude.{◌≡◌, ◌<◌, ◌≤◌, ◌++◌, [], IsTrue, if◌then◌else◌, option_to_list};
+ghost use Rattle.std.specs.Prelude.{◌≡◌, ◌<◌, ◌≤◌, ◌++◌, ℕ, Some, [], IsTrue, if◌then◌else◌, option_to_list};
 ghost use Rattle.loss_core.specs.declared.finding.Finding.TheVariants.{Late, Restarted};
-ghost use Rattle.loss_core.specs.Findings.{came_told, first_missing as first_is, frame_findings, frames_told, missing_told, silence as silence_is, standing_told, states_told, synch_told};
+ghost use Rattle.loss_core.specs.Findings.{came_told, count_told, first_missing as first_is, frame_findings, frames_told, missing_told, silence as silence_is, standing_told, states_told, synch_told};
 ghost use Rattle.loss_core.specs.Sender.{was_silent};
 ghost use Rattle.loss_core.specs.computed.Given.{given};
 
@@ -127,6 +127,7 @@ fn came_finding(period: u32, count: u16, came: Came) -> Option<Finding>
     match came {
         Came::First => None,
         Came::Next => None,
+        Came::BeforeFirst => None,
         Came::Missing(missing) => Some(Finding::SamplesMissing(
             first_missing(period, count, missing),
             missing,
@@ -134,6 +135,20 @@ fn came_finding(period: u32, count: u16, came: Came) -> Option<Finding>
         Came::Repeated => Some(Finding::SampleRepeated(count)),
         Came::Late => Some(Finding::SampleLate(count)),
         Came::OutOfRange => Some(Finding::OutOfRange(count)),
+    }
+}
+
+// What a sample's count tells, where a period is given, by which it was judged.
+fn count_finding(period: Option<u32>, count: u16, came: Option<Came>) -> Option<Finding>
+    requires { (n : ℕ) → period ≡ Some n → (0 < n) × (n ≤ 65536) }
+    ensures { option_to_list result ≡ count_told period count came }
+{
+    match period {
+        None => None,
+        Some(period) => match came {
+            None => None,
+            Some(came) => came_finding(period, count, came),
+        },
     }
 }
 
@@ -153,34 +168,48 @@ fn synch_finding(before: Option<u8>, synch: u8) -> Option<Finding>
     }
 }
 
-/// What a sample of a stream with this many samples a second tells: by what its count is, and by the smpSynch before it and its
-/// own.
+/// What a sample of a stream tells: by what its count is, where it has a period of so many samples a second, 1 to 65,536, and by
+/// the smpSynch before it and its own.
 pub fn findings_of_sample(
-    period: u32,
+    period: Option<u32>,
     count: u16,
-    came: Came,
+    came: Option<Came>,
     before: Option<u8>,
     synch: u8,
 ) -> [Option<Finding>; 2]
-    requires some { 0 < period }
-    requires most { period ≤ 65536 }
-    ensures { given result ≡ came_told period count came ++ synch_told before synch }
+    requires { (n : ℕ) → period ≡ Some n → (0 < n) × (n ≤ 65536) }
+    ensures { given result ≡ count_told period count came ++ synch_told before synch }
 {
     [
-        came_finding(period, count, came),
+        count_finding(period, count, came),
         synch_finding(before, synch),
     ]
 }
 
-// Whether a sample's count tells nothing, as nearly every one.
+// Whether what a sample's count is tells nothing, as nearly every one.
 #[inline(always)]
-fn is_count_quiet(period: u32, count: u16, came: Came) -> bool
+fn is_came_quiet(period: u32, count: u16, came: Came) -> bool
     ensures { IsTrue result → came_told period count came ≡ [] }
 {
     match came {
         Came::First => true,
         Came::Next => true,
+        Came::BeforeFirst => true,
         Came::Missing(_) | Came::Repeated | Came::Late | Came::OutOfRange => false,
+    }
+}
+
+// Whether a sample's count tells nothing, where a period is given or not.
+#[inline(always)]
+fn is_count_quiet(period: Option<u32>, count: u16, came: Option<Came>) -> bool
+    ensures { IsTrue result → count_told period count came ≡ [] }
+{
+    match period {
+        None => true,
+        Some(period) => match came {
+            None => true,
+            Some(came) => is_came_quiet(period, count, came),
+        },
     }
 }
 
@@ -197,8 +226,14 @@ fn is_synch_quiet(before: Option<u8>, synch: u8) -> bool
 
 /// Whether a sample tells nothing, as nearly every one. Where it does not say so, `findings_of_sample` says what there is.
 #[inline(always)]
-pub fn is_sample_quiet(period: u32, count: u16, came: Came, before: Option<u8>, synch: u8) -> bool
-    ensures { IsTrue result → came_told period count came ++ synch_told before synch ≡ [] }
+pub fn is_sample_quiet(
+    period: Option<u32>,
+    count: u16,
+    came: Option<Came>,
+    before: Option<u8>,
+    synch: u8,
+) -> bool
+    ensures { IsTrue result → count_told period count came ++ synch_told before synch ≡ [] }
 {
     is_count_quiet(period, count, came) && is_synch_quiet(before, synch)
 }

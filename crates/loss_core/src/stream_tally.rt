@@ -71,6 +71,7 @@ impl StreamTotals {
         match came {
             Came::First => {}
             Came::Next => {}
+            Came::BeforeFirst => {}
             Came::Missing(missing) => {
                 self.missing = self.missing.saturating_add(missing);
                 self.outages = one_more(self.outages);

@@ -1,18 +1,21 @@
 -- What a reader that judges events answered, one after another, and what its input says of that.
-use Rattle.std.proofs.Common.{Option, Some, None, true, Ok, Err, ◌≡◌, ◌⊎◌, ℕ, ◌+◌, ◌<◌, suc, add-one, List, [], ◌∷◌, ◌++◌, length, inl, inr, ap, ap₂, sym, ◌∙◌, refl, subst, drop}
+use Rattle.std.proofs.Common.{Option, Some, None, true, Ok, Err, ◌≡◌, ◌⊎◌, ℕ, ◌+◌, ◌<◌, ◌≤◌, suc, add-one, arith, List, [], ◌∷◌, ◌++◌, length, inl, inr, ap, ap₂, sym, ◌∙◌, refl, subst, drop}
 use Rattle.std.specs.Prelude.{option_map, slice_get, ⊤}
 use Rattle.std.proofs.Math.Seq.{drop-cons}
-use Rattle.std.proofs.lemmas.List.{append_assoc, drop_all}
+use Rattle.std.proofs.lemmas.List.{append_assoc, drop_all, length-append}
 use Rattle.std.proofs.lemmas.Option.{get_or_from_slice_get, slice_get-map, slice_get_cases, slice_get_within}
+use Rattle.list_core.specs.declared.device.InputEnd.{InputEnd}
 use Rattle.list_core.specs.declared.event.Event.{Event}
 use Rattle.list_core.specs.Items.{Numbered, put_item, put_items, stops}
 use Rattle.list_core.specs.Lines.{finished}
 use Rattle.list_core.specs.ReadItems.{AnswerOf, Gave}
 use Rattle.engine_core.specs.declared.style.Style.{Style}
 use Rattle.engine_core.specs.EngineText.{ItemText}
-use Rattle.engine_core.proofs.InputRuns.{ReadOf, TellsOnward}
+use Rattle.engine_core.specs.Input.{Input, IsRead, TellsNext}
+use Rattle.engine_core.proofs.InputRuns.{GivenSo}
+use Rattle.loss_engine.specs.LossWants.{ArePiecesRead, KeepsBehind, StandsBehind}
 use Rattle.loss_engine.specs.declared.losing.Losing.{Losing}
-use Rattle.loss_engine.specs.computed.Judging.{ClosesAt, line, wants, last, EndsEvents, FailsNext, GoesOnClosing, Judges, JudgesBy, LacksNext, SameSetting, TellsNext, closing_of, events_of, kept_of, period_of}
+use Rattle.loss_engine.specs.computed.Judging.{ClosesAt, line, wants, last, EndsEvents, FailsNext, GoesOnClosing, Judges, JudgesBy, LacksNext, SameSetting, TellsEventNext, closing_of, events_of, kept_of, period_of}
 use Rattle.loss_engine.specs.computed.Tracking.{Kept, closings, keep, keep_all, numbered_all, piece_by, pieces_by, pieces_onward, shows_new, sights_by}
 use Rattle.loss_engine.specs.computed.Wanting.{Wanting, by_input, by_new, by_text}
 
@@ -141,7 +144,7 @@ module _ {I A F : Type 0} (answers : I → AnswerOf (Event A) F → I → Type 0
   Came s b ps = CameOpen s b ps ⊎ CameClosed s b ps
 
   -- an event more in front
-  came_more : (s next b : Losing I A) (p : ℕ × ItemText) (ps : List (ℕ × ItemText)) → TellsNext answers s (Ok (Some p)) next → SameSetting s next → Came next b ps → Came s b (p ∷ ps)
+  came_more : (s next b : Losing I A) (p : ℕ × ItemText) (ps : List (ℕ × ItemText)) → TellsEventNext answers s (Ok (Some p)) next → SameSetting s next → Came next b ps → Came s b (p ∷ ps)
   unfolding Gave
   came_more s next b p ps t set (inl c) = inl (record {
     events = t.event ∷ c.events;
@@ -234,18 +237,35 @@ module _ {I A F : Type 0} (answers : I → AnswerOf (Event A) F → I → Type 0
   pieces_put period style n k [] onward = refl
   pieces_put period style n k (e ∷ es) onward = ap (put_item (e.0, piece_by period style k e)) (pieces_put period style n (keep period k e.1) es onward)
 
-  module _ (said : List ℕ → Numbered (Event A) F) (Keeps : List ℕ → List (ℕ × Event A) → Type 0) (s b after : Losing I A) (old new : Option (List ℕ))
-      (reads : (before : I) (es : List (ℕ × Event A)) (raw : AnswerOf (Event A) F) → Gave answers (events_of s) es before → answers before raw (events_of after) → ReadOf said Keeps es raw old new) where
+  -- a piece for each event
+  pieces_size : (period : Option ℕ) (style : Style) (k : Kept) (es : List (ℕ × Event A)) → length (pieces_by period style k es) ≡ length es
+  pieces_size period style k [] = refl
+  pieces_size period style k (e ∷ es) = ap suc (pieces_size period style (keep period k e.1) es)
+
+  module _ {C : Type 0} (input : Input (Event A) C F) (z : InputEnd) (s b after : Losing I A) (old new : Option (List ℕ))
+      (reads : (before : I) (es : List (ℕ × Event A)) (raw : AnswerOf (Event A) F) → Gave answers (events_of s) es before → answers before raw (events_of after) → GivenSo old new (λ given. IsRead input z given es raw)) where
+    abbrev said : List ℕ → Numbered (Event A) F
+    said given = input.says z given
+
+    -- as many events were read as pieces were answered
+    as_many : (given : List ℕ) (ps : List (ℕ × ItemText)) (c : CameOpen s b ps) (raw : AnswerOf (Event A) F) → IsRead input z given c.events raw → StandsBehind input z given ps
+    as_many given ps c raw r = record {
+      events = c.events;
+      answer = raw;
+      is_read = r;
+      of_events = inl (sym (pieces_size (period_of s) s.style (kept_of s) c.events) ∙ ap length (sym c.told));
+    }
+
     -- the pieces of what the input says
     abbrev all_pieces : List ℕ → Numbered ItemText F
     all_pieces given = pieces_onward (period_of s) s.style (number (events_of after)) (kept_of s) (said given)
 
     -- what memory may be wanted for
     abbrev MayWant : List ℕ → List (ℕ × ItemText) → Type 0
-    MayWant given ps = Wanting (period_of s) s.style (kept_of s) (Keeps given) (said given) (all_pieces given) ps
+    MayWant given ps = Wanting (period_of s) s.style (kept_of s) (KeepsBehind input z given) (said given) (all_pieces given) ps
 
     abbrev Reads : List (ℕ × ItemText) → AnswerOf ItemText F → Type 0
-    Reads ps answer = ReadOf all_pieces MayWant ps answer old new
+    Reads ps answer = GivenSo old new (λ given. ArePiecesRead input z given (all_pieces given) (MayWant given) ps answer)
 
     all_put : (given : List ℕ) (es : List (ℕ × Event A)) (onward : Numbered (Event A) F) → said given ≡ put_items es onward →
         all_pieces given ≡ put_items (pieces_by (period_of s) s.style (kept_of s) es) (pieces_onward (period_of s) s.style (number (events_of after)) (keep_all (period_of s) (kept_of s) es) onward)
@@ -261,40 +281,44 @@ module _ {I A F : Type 0} (answers : I → AnswerOf (Event A) F → I → Type 0
         ∙ ap (λ (k : Kept). pieces_onward (period_of s) s.style (number (events_of after)) k (put_item e others)) (sym c.keeps))
 
     -- what it told was answered
-    from_told : (ps : List (ℕ × ItemText)) (answer : AnswerOf ItemText F) → CameOpen s b ps → TellsNext answers b answer after → Reads ps answer
+    from_told : (ps : List (ℕ × ItemText)) (answer : AnswerOf ItemText F) → CameOpen s b ps → TellsEventNext answers b answer after → Reads ps answer
     from_told ps answer c t =
         let r = reads (events_of b) c.events (Ok (Some t.event)) c.gave t.reads in
-        let whole = read_event ps answer c t.event r.given r.onward r.tells.0 r.says r.tells.1 in
-        record {
-          given = r.given;
-          gives = r.gives;
-          onward = _;
-          says = whole;
-          tells = subst (λ o. TellsOnward o (put_item (t.event.0, piece_by (period_of s) s.style (kept_of b) t.event) (pieces_onward (period_of s) s.style (number (events_of after)) (keep (period_of s) (kept_of b) t.event.1) r.tells.0)))
-              (ap (λ w. Ok (Some (t.event.0, w))) (sym (piece_eq _ _ _ _ (kept_of b) t.event c.setting.period c.setting.style)) ∙ sym t.told) (_, refl);
-          keeps = λ none. let e = t.told in cc;
-        }
+        let whole = read_event ps answer c t.event r.0 r.2.onward r.2.tells.0 r.2.says r.2.tells.1 in (
+          r.0,
+          r.1,
+          record {
+            onward = _;
+            says = whole;
+            tells = subst (λ o. TellsNext o (put_item (t.event.0, piece_by (period_of s) s.style (kept_of b) t.event) (pieces_onward (period_of s) s.style (number (events_of after)) (keep (period_of s) (kept_of b) t.event.1) r.2.tells.0)))
+                (ap (λ w. Ok (Some (t.event.0, w))) (sym (piece_eq _ _ _ _ (kept_of b) t.event c.setting.period c.setting.style)) ∙ sym t.told) (_, refl);
+            stands = as_many r.0 ps c (Ok (Some t.event)) r.2;
+            wants = λ none. let e = t.told in cc;
+          },
+        )
 
     -- memory was wanted for it
     from_lacks : (ps : List (ℕ × ItemText)) (answer : AnswerOf ItemText F) → CameOpen s b ps → LacksNext answers b answer after → Reads ps answer
     from_lacks ps answer c t =
         let r = reads (events_of b) c.events (Ok (Some t.event)) c.gave t.reads in
-        let whole = read_event ps answer c t.event r.given r.onward r.tells.0 r.says r.tells.1 in
-        record {
-          given = r.given;
-          gives = r.gives;
-          onward = _;
-          says = whole;
-          tells = subst (λ o. TellsOnward o (put_item (t.event.0, piece_by (period_of s) s.style (kept_of b) t.event) (pieces_onward (period_of s) s.style (number (events_of after)) (keep (period_of s) (kept_of b) t.event.1) r.tells.0)))
-              (sym t.lacks) tt;
-          keeps = λ none. elim t.wants [
-            | inl new ↦ by_new c.events t.event r.tells.0 c.told (r.says ∙ ap (put_items c.events) r.tells.1) (subst (λ (k : Kept). shows_new k.tracked (sights_by k t.event.1) ≡ true) c.keeps new)
-            | inr some ↦ by_text (t.event.0, piece_by (period_of s) s.style (kept_of b) t.event) _ whole (λ empty. some (ap (λ (w : ItemText). w.text) (piece_eq _ _ _ _ (kept_of b) t.event c.setting.period c.setting.style) ∙ empty))
-          ];
-        }
+        let whole = read_event ps answer c t.event r.0 r.2.onward r.2.tells.0 r.2.says r.2.tells.1 in (
+          r.0,
+          r.1,
+          record {
+            onward = _;
+            says = whole;
+            tells = subst (λ o. TellsNext o (put_item (t.event.0, piece_by (period_of s) s.style (kept_of b) t.event) (pieces_onward (period_of s) s.style (number (events_of after)) (keep (period_of s) (kept_of b) t.event.1) r.2.tells.0)))
+                (sym t.lacks) tt;
+            stands = as_many r.0 ps c (Ok (Some t.event)) r.2;
+            wants = λ none. elim t.wants [
+              | inl new ↦ by_new c.events t.event r.2.tells.0 c.told (r.2.says ∙ ap (put_items c.events) r.2.tells.1) (subst (λ (k : Kept). shows_new k.tracked (sights_by k t.event.1) ≡ true) c.keeps new)
+              | inr some ↦ by_text (t.event.0, piece_by (period_of s) s.style (kept_of b) t.event) _ whole (λ empty. some (ap (λ (w : ItemText). w.text) (piece_eq _ _ _ _ (kept_of b) t.event c.setting.period c.setting.style) ∙ empty))
+            ];
+          },
+        )
 
     -- what is said of an answer without an event, and then of what is answered
-    tells_why : (k : Kept) (why : Option F) (onward : Numbered (Event A) F) → TellsOnward (Err why) onward → TellsOnward (Err why) (pieces_onward (period_of s) s.style (number (events_of after)) k onward)
+    tells_why : (k : Kept) (why : Option F) (onward : Numbered (Event A) F) → TellsNext (Err why) onward → TellsNext (Err why) (pieces_onward (period_of s) s.style (number (events_of after)) k onward)
     tells_why k None onward h = tt
     tells_why k (Some f) onward h = ap (λ (l : Numbered (Event A) F). pieces_onward (period_of s) s.style (number (events_of after)) k l) h
 
@@ -304,15 +328,17 @@ module _ {I A F : Type 0} (answers : I → AnswerOf (Event A) F → I → Type 0
     -- the input has a fault, or memory was wanted for what comes next
     from_fails : (ps : List (ℕ × ItemText)) (answer : AnswerOf ItemText F) → CameOpen s b ps → FailsNext answers b answer after → Reads ps answer
     from_fails ps answer c t =
-        let r = reads (events_of b) c.events (Err t.why) c.gave t.reads in
-        record {
-          given = r.given;
-          gives = r.gives;
-          onward = pieces_onward (period_of s) s.style (number (events_of after)) (keep_all (period_of s) (kept_of s) c.events) r.onward;
-          says = all_put r.given c.events r.onward r.says ∙ ap (λ xs. put_items xs (pieces_onward (period_of s) s.style (number (events_of after)) (keep_all (period_of s) (kept_of s) c.events) r.onward)) (sym c.told);
-          tells = subst (λ o. TellsOnward o (pieces_onward (period_of s) s.style (number (events_of after)) (keep_all (period_of s) (kept_of s) c.events) r.onward)) (sym t.fails) (tells_why _ t.why r.onward r.tells);
-          keeps = λ none. by_input c.events r.onward c.told r.says (r.keeps (ap Err (why_none t.why answer t.fails none)));
-        }
+        let r = reads (events_of b) c.events (Err t.why) c.gave t.reads in (
+          r.0,
+          r.1,
+          record {
+            onward = pieces_onward (period_of s) s.style (number (events_of after)) (keep_all (period_of s) (kept_of s) c.events) r.2.onward;
+            says = all_put r.0 c.events r.2.onward r.2.says ∙ ap (λ xs. put_items xs (pieces_onward (period_of s) s.style (number (events_of after)) (keep_all (period_of s) (kept_of s) c.events) r.2.onward)) (sym c.told);
+            tells = subst (λ o. TellsNext o (pieces_onward (period_of s) s.style (number (events_of after)) (keep_all (period_of s) (kept_of s) c.events) r.2.onward)) (sym t.fails) (tells_why _ t.why r.2.onward r.2.tells);
+            stands = as_many r.0 ps c (Err t.why) r.2;
+            wants = λ none. by_input c.events r.2.onward c.told r.2.says (subst (λ (w : Option F). input.stands z r.0 c.events (Err w)) (why_none t.why answer t.fails none) r.2.stands);
+          },
+        )
 
     -- the events have ended: what the input says behind them is the lines at the end
     end_pieces : (k : Kept) (onward : Numbered (Event A) F) → onward ≡ stops finished → pieces_onward (period_of s) s.style (number (events_of after)) k onward ≡ record { items = rest (number (events_of after)) s.style k 0; stop = finished }
@@ -333,10 +359,10 @@ module _ {I A F : Type 0} (answers : I → AnswerOf (Event A) F → I → Type 0
     none_in at set h = ap (λ t. slice_get (closings t (kept_of b)) at) (sym set.style) ∙ h
 
     -- what is answered of lines at the end
-    closes_tells : (at : ℕ) (answer : AnswerOf ItemText F) → SameSetting s b → ClosesAt number at b answer after → TellsOnward answer (left_lines (kept_of b) at)
-    closes_tells at answer set (line w there is goes keeps) = subst (λ o. TellsOnward o (left_lines (kept_of b) at)) (sym is) (_, line_told (kept_of b) at w (there_in at w set there))
-    closes_tells at answer set (wants w there is some goes keeps) = subst (λ o. TellsOnward o (left_lines (kept_of b) at)) (sym is) tt
-    closes_tells at answer set (last none is) = subst (λ o. TellsOnward o (left_lines (kept_of b) at)) (sym is) (ap (λ xs. record { items = xs; stop = finished }) (rest_none (number (events_of after)) s.style (kept_of b) at (none_in at set none)))
+    closes_tells : (at : ℕ) (answer : AnswerOf ItemText F) → SameSetting s b → ClosesAt number at b answer after → TellsNext answer (left_lines (kept_of b) at)
+    closes_tells at answer set (line w there is goes keeps) = subst (λ o. TellsNext o (left_lines (kept_of b) at)) (sym is) (_, line_told (kept_of b) at w (there_in at w set there))
+    closes_tells at answer set (wants w there is some goes keeps) = subst (λ o. TellsNext o (left_lines (kept_of b) at)) (sym is) tt
+    closes_tells at answer set (last none is) = subst (λ o. TellsNext o (left_lines (kept_of b) at)) (sym is) (ap (λ xs. record { items = xs; stop = finished }) (rest_none (number (events_of after)) s.style (kept_of b) at (none_in at set none)))
 
     closes_wants : (given : List ℕ) (ps : List (ℕ × ItemText)) (at : ℕ) (answer : AnswerOf ItemText F) → SameSetting s b → ClosesAt number at b answer after → all_pieces given ≡ put_items ps (left_lines (kept_of b) at) → answer ≡ Err None → MayWant given ps
     closes_wants given ps at answer set (line w there is goes keeps) says none = cc
@@ -348,37 +374,43 @@ module _ {I A F : Type 0} (answers : I → AnswerOf (Event A) F → I → Type 0
     from_end : (ps : List (ℕ × ItemText)) (answer : AnswerOf ItemText F) → CameOpen s b ps → EndsEvents answers number b answer after → Reads ps answer
     from_end ps answer c t =
         let r = reads (events_of b) c.events (Ok None) c.gave t.reads in
-        let says : all_pieces r.given ≡ put_items ps (left_lines (kept_of b) 0) =
-        all_put r.given c.events r.onward r.says
-        ∙ ap₂ (λ xs (l : Numbered ItemText F). put_items xs l) (sym c.told) (end_pieces (keep_all (period_of s) (kept_of s) c.events) r.onward r.tells ∙ ap (λ k. left_lines k 0) (sym c.keeps)) in
-        record {
-          given = r.given;
-          gives = r.gives;
-          onward = left_lines (kept_of b) 0;
-          says = says;
-          tells = closes_tells 0 answer c.setting t.closes;
-          keeps = closes_wants r.given ps 0 answer c.setting t.closes says;
-        }
+        let says : all_pieces r.0 ≡ put_items ps (left_lines (kept_of b) 0) =
+        all_put r.0 c.events r.2.onward r.2.says
+        ∙ ap₂ (λ xs (l : Numbered ItemText F). put_items xs l) (sym c.told) (end_pieces (keep_all (period_of s) (kept_of s) c.events) r.2.onward r.2.tells ∙ ap (λ k. left_lines k 0) (sym c.keeps)) in (
+          r.0,
+          r.1,
+          record {
+            onward = left_lines (kept_of b) 0;
+            says = says;
+            tells = closes_tells 0 answer c.setting t.closes;
+            stands = as_many r.0 ps c (Ok None) r.2;
+            wants = closes_wants r.0 ps 0 answer c.setting t.closes says;
+          },
+        )
 
     -- they had ended before
     from_closed : (ps : List (ℕ × ItemText)) (answer : AnswerOf ItemText F) (c : CameClosed s b ps) → GoesOnClosing number c.behind b answer after → Reads ps answer
     from_closed ps answer c t =
         let r = reads c.before c.events (Ok None) c.gave (subst (λ (x : I). answers c.before (Ok None) x) (sym t.same) c.ended) in
+        let size = ap length c.told ∙ length-append (pieces_by (period_of s) s.style (kept_of s) c.events) c.lines in
+        let fewer : length c.events ≤ length ps = let one_each = pieces_size (period_of s) s.style (kept_of s) c.events in omega (arith, size, one_each) in
         let lines : rest (number (events_of after)) s.style (kept_of b) 0 ≡ c.lines ++ rest (number (events_of after)) s.style (kept_of b) c.behind =
         subst (λ (x : I). rest (number x) s.style (kept_of b) 0 ≡ c.lines ++ rest (number x) s.style (kept_of b) c.behind) (sym t.same) c.parts in
-        let says : all_pieces r.given ≡ put_items ps (left_lines (kept_of b) c.behind) =
-        all_put r.given c.events r.onward r.says
+        let says : all_pieces r.0 ≡ put_items ps (left_lines (kept_of b) c.behind) =
+        all_put r.0 c.events r.2.onward r.2.says
         ∙ ap (λ (l : Numbered ItemText F). put_items (pieces_by (period_of s) s.style (kept_of s) c.events) l)
-        (end_pieces (keep_all (period_of s) (kept_of s) c.events) r.onward r.tells ∙ ap (λ k. left_lines k 0) (sym c.keeps) ∙ ap (λ xs. record { items = xs; stop = finished }) lines)
-        ∙ ap (λ xs. record { items = xs; stop = finished }) (sym (append_assoc (pieces_by (period_of s) s.style (kept_of s) c.events) c.lines (rest (number (events_of after)) s.style (kept_of b) c.behind)) ∙ ap (λ xs. xs ++ rest (number (events_of after)) s.style (kept_of b) c.behind) (sym c.told)) in
-        record {
-          given = r.given;
-          gives = r.gives;
-          onward = left_lines (kept_of b) c.behind;
-          says = says;
-          tells = closes_tells c.behind answer c.setting t.closes;
-          keeps = closes_wants r.given ps c.behind answer c.setting t.closes says;
-        }
+        (end_pieces (keep_all (period_of s) (kept_of s) c.events) r.2.onward r.2.tells ∙ ap (λ k. left_lines k 0) (sym c.keeps) ∙ ap (λ xs. record { items = xs; stop = finished }) lines)
+        ∙ ap (λ xs. record { items = xs; stop = finished }) (sym (append_assoc (pieces_by (period_of s) s.style (kept_of s) c.events) c.lines (rest (number (events_of after)) s.style (kept_of b) c.behind)) ∙ ap (λ xs. xs ++ rest (number (events_of after)) s.style (kept_of b) c.behind) (sym c.told)) in (
+          r.0,
+          r.1,
+          record {
+            onward = left_lines (kept_of b) c.behind;
+            says = says;
+            tells = closes_tells c.behind answer c.setting t.closes;
+            stands = record { events = c.events; answer = Ok None; is_read = r.2; of_events = inr (refl, fewer) };
+            wants = closes_wants r.0 ps c.behind answer c.setting t.closes says;
+          },
+        )
 
     -- what the reader answered one after another, and then
     pub judged_read : (ps : List (ℕ × ItemText)) (answer : AnswerOf ItemText F) → closing_of s ≡ None → Gave judges s ps b → judges b answer after → Reads ps answer

@@ -12,6 +12,7 @@ pub mod KeyOrder
 pub mod RollLemmas
 pub mod TrackedKeys
 pub mod Stands
+pub mod TimesBack
 pub mod LossLaws
 pub mod LossWanted
 pub mod LossesOnce

@@ -1,6 +1,6 @@
 -- What `losses` writes by what it keeps is what the definitions say of the input.
-use Rattle.std.proofs.Common.{Option, Some, None, ◌≡◌, ℕ, zero, suc, ◌+◌, max, false, List, [], ◌∷◌, ◌++◌, length, map, take, append-nil, append_assoc, ap, refl, ◌∙◌, sym, subst, arith, if◌then◌else◌}
-use Rattle.std.specs.Prelude.{nat_le, option_map, slice_get}
+use Rattle.std.proofs.Common.{Option, Some, None, ◌≡◌, ℕ, zero, suc, ◌+◌, max, false, List, [], ◌∷◌, ◌++◌, length, map, take, append-nil, append_assoc, inl, inr, ap, refl, ◌∙◌, sym, subst, arith, if◌then◌else◌}
+use Rattle.std.specs.Prelude.{◌||◌, is_some, nat_le, option_map, slice_get}
 use Rattle.std.specs.List.{list_any}
 use Rattle.std.proofs.lemmas.List.{length-map}
 use Rattle.std.proofs.lemmas.Option.{none-some, same_Some, slice_get-map}
@@ -17,11 +17,13 @@ use Rattle.loss_core.specs.Findings.{has_loss}
 use Rattle.loss_engine.specs.Findings.{TellsSight}
 use Rattle.loss_engine.specs.LossLine.{samples_line}
 use Rattle.loss_engine.specs.LossObject.{samples_object}
-use Rattle.loss_engine.specs.LossText.{AreLosses, ClosesBy, ClosesEvents, ClosesKey, IsClosing, TellsEvent, end_silent, form_of, line_of, sight_lines, sights_at, stale, styled}
+use Rattle.loss_engine.specs.LossText.{AreLosses, ClosesBy, ClosesEvents, ClosesKey, IsClosing, TellsEvent, back_lines, end_silent, form_of, line_of, sight_lines, sights_at, stale, styled}
 use Rattle.loss_engine.specs.Sights.{Key, Sight, sender, stream, frames_of, greatest_moment, keys_in, samples_of, sights_from, sights_in, sights_of, synchs_of}
+use Rattle.loss_engine.specs.TimeBack.{TellsBack, is_far_below}
 use Rattle.loss_engine.specs.computed.Entries.{IsPeriodOf}
-use Rattle.loss_engine.specs.computed.Tracking.{Kept, Progress, Tracked, closing_by, closing_pieces, closings, counted, findings_all, frames, keep, keep_all, kept_none, numbered_all, piece_by, pieces_by, pieces_of, samples, sights_by, silences_by, silent_since, stale_newest, total_by, totals_by, track_all}
+use Rattle.loss_engine.specs.computed.Tracking.{Kept, Progress, Tracked, back_by, closing_by, closing_pieces, closings, counted, findings_all, frames, keep, keep_all, kept_none, numbered_all, piece_by, pieces_by, pieces_of, samples, sights_by, silences_by, silent_since, stale_newest, total_by, totals_by, track_all}
 use Rattle.loss_engine.proofs.Stands.{AreKinds, Holds, Stands, findings_sizes, findings_tell, kinds_of, stands_all, stands_none}
+use Rattle.loss_engine.proofs.TimesBack.{IsBack, tells_back}
 use Rattle.loss_engine.proofs.TrackedKeys.{known_own}
 
 -- ---- events
@@ -43,11 +45,12 @@ sights_push moment (d ∷ before) e =
 -- this is kept after events
 pub record Follows {A : Type 0} (period : Option ℕ) (before : List (ℕ × Event A)) (k : Kept) : Type 0 where
   pub moment : k.moment ≡ greatest_moment before
+  pub is_back : IsBack before k.is_back
   pub stands : Stands period (sights_in before) k.tracked
 
 module _ {A : Type 0} (period : Option ℕ) (is : IsPeriodOf period) where
   follows_none : Follows {A = A} period [] kept_none
-  follows_none = record { moment = refl; stands = stands_none period }
+  follows_none = record { moment = refl; is_back = inl (refl, refl); stands = stands_none period }
 
   moment_push : (before : List (ℕ × Event A)) (k : Kept) (e : ℕ × Event A) → Follows period before k → max k.moment e.1.moment ≡ greatest_moment (before ++ e ∷ [])
   moment_push before k e f = ap (λ n. max n e.1.moment) f.moment ∙ sym (greatest_push before e)
@@ -63,6 +66,7 @@ module _ {A : Type 0} (period : Option ℕ) (is : IsPeriodOf period) where
   follows_on : (before : List (ℕ × Event A)) (k : Kept) (e : ℕ × Event A) → Follows period before k → Follows period (before ++ e ∷ []) (keep period k e.1)
   follows_on before k e f = record {
     moment = moment_push before k e f;
+    is_back = inr (before, e, refl, ap (λ n. is_far_below n e.1.moment) f.moment);
     stands =
         subst (λ l. Stands period l (track_all period k.tracked (sights_by k e.1))) (sym (sights_more before k e f))
         (stands_all period is (sights_by k e.1) (sights_in before) k.tracked (kinds_of (max k.moment e.1.moment) e.1.kind) f.stands);
@@ -79,19 +83,21 @@ module _ {A : Type 0} (period : Option ℕ) (is : IsPeriodOf period) where
   follows_all items = follows_from items [] kept_none follows_none
 
   -- the piece of an event
-  told_with : (style : Style) (before : List (ℕ × Event A)) (k : Kept) (e : ℕ × Event A) (seen : List Sight) → seen ≡ sights_at before e → AreKinds seen → Stands period (sights_in before) k.tracked →
+  told_with : (style : Style) (before : List (ℕ × Event A)) (k : Kept) (e : ℕ × Event A) (back : Option ℕ) (seen : List Sight) → TellsBack before e back → seen ≡ sights_at before e → AreKinds seen → Stands period (sights_in before) k.tracked →
       TellsEvent period style before e
-      (record { text = styled style e.1.moment (λ form. sight_lines form e.0 e.1.moment seen (findings_all period k.tracked seen)); is_finding = list_any has_loss (findings_all period k.tracked seen) })
-  told_with style before k e seen same all st = record {
+      (record { text = styled style e.1.moment (λ form. back_lines form e.0 e.1.moment back ++ sight_lines form e.0 e.1.moment seen (findings_all period k.tracked seen)); is_finding = is_some back || list_any has_loss (findings_all period k.tracked seen) })
+  told_with style before k e back seen goes same all st = record {
+    back = back;
+    goes_back = goes;
     findings = findings_all period k.tracked seen;
     sizes = findings_sizes period is seen k.tracked ∙ ap length same;
     each = λ i s fs p q. subst (λ l. TellsSight period (sights_in before ++ take i l) s fs) same (findings_tell period is seen (sights_in before) k.tracked all st i s fs (ap (λ l. slice_get l i) same ∙ p) q);
-    text = ap (λ l. styled style e.1.moment (λ form. sight_lines form e.0 e.1.moment l (findings_all period k.tracked seen))) same;
+    text = ap (λ l. styled style e.1.moment (λ form. back_lines form e.0 e.1.moment back ++ sight_lines form e.0 e.1.moment l (findings_all period k.tracked seen))) same;
     found = refl;
   }
 
   pub event_told : (style : Style) (before : List (ℕ × Event A)) (k : Kept) (e : ℕ × Event A) → Follows period before k → TellsEvent period style before e (piece_by period style k e)
-  event_told style before k e f = told_with style before k e (sights_by k e.1) (sights_there before k e f) (kinds_of (max k.moment e.1.moment) e.1.kind) f.stands
+  event_told style before k e f = told_with style before k e (back_by k e.1.moment) (sights_by k e.1) (tells_back before e k f.moment f.is_back) (sights_there before k e f) (kinds_of (max k.moment e.1.moment) e.1.kind) f.stands
 
   pieces_tell : (style : Style) (items before : List (ℕ × Event A)) (k : Kept) → Follows period before k → (i : ℕ) (e : ℕ × Event A) (w : ℕ × ItemText) → slice_get items i ≡ Some e → slice_get (pieces_by period style k items) i ≡ Some w →
       (w.0 ≡ e.0) × TellsEvent period style (before ++ take i items) e w.1
@@ -125,7 +131,7 @@ closes_key : (period : Option ℕ) (form : Form) (seen : List Sight) (end : ℕ)
     ClosesKey period form seen end key (end_silent form key end (silent_since end p)) (total_by form end key p)
 closes_key period form seen end (sender a r s) (frames t) h = record { tally = t; stands = h; is_silent = refl; is_total = refl }
 closes_key period form seen end (sender a r s) (samples u z) h = absurd h
-closes_key period form seen end (sender a r s) (counted n) h = absurd h
+closes_key period form seen end (sender a r s) (counted n z) h = absurd h
 closes_key period form seen end (stream a o i) (frames t) h = absurd h
 closes_key None form seen end (stream a o i) (samples u z) h = absurd h
 closes_key (Some period) form seen end (stream a o i) (samples u z) h =
@@ -141,9 +147,9 @@ closes_key (Some period) form seen end (stream a o i) (samples u z) h =
       is_silent = ap (end_silent form (stream a o i) end) (stale_same known.0 u.stream.newest end known.2);
       is_total = refl;
     }
-closes_key None form seen end (stream a o i) (counted n) h =
-    record { is_silent = refl; is_total = ap (λ m. line_of form false (samples_line (stream a o i) m) (samples_object (stream a o i) m)) h }
-closes_key (Some period) form seen end (stream a o i) (counted n) h = absurd h
+closes_key None form seen end (stream a o i) (counted n z) h =
+    record { is_silent = refl; is_total = ap (λ m. line_of form false (samples_line (stream a o i) m) (samples_object (stream a o i) m)) h.0 }
+closes_key (Some period) form seen end (stream a o i) (counted n z) h = absurd h
 
 map_found : {X Y : Type 0} (f : X → Y) (xs : List X) (i : ℕ) (y : Y) → slice_get (map f xs) i ≡ Some y → (x : X) × (slice_get xs i ≡ Some x) × (f x ≡ y)
 map_found f [] i y e = absurd (none-some y e)

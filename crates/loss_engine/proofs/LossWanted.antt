@@ -5,19 +5,15 @@ use Rattle.std.specs.List.{list_any}
 use Rattle.std.proofs.lemmas.Bool.{false≢true, not-true, or_cases}
 use Rattle.list_core.specs.declared.event.Event.{Event}
 use Rattle.list_core.specs.Items.{Numbered, put_item, put_items}
-use Rattle.engine_core.specs.declared.ending.Ending.{Ending}
 use Rattle.engine_core.specs.declared.style.Style.{Style}
-use Rattle.engine_core.specs.EngineText.{Allowed, ItemText}
-use Rattle.engine_core.specs.InputRun.{EndsOnward, InputRun}
+use Rattle.engine_core.specs.EngineText.{ItemText}
 use Rattle.loss_core.proofs.Places.{get_middle}
-use Rattle.loss_engine.specs.computed.LossRun.{LossRun}
-use Rattle.loss_engine.specs.LossText.{AreLosses}
-use Rattle.loss_engine.specs.LossWants.{ArePiecesOf, LossWants, ShowsNew, WritesLosses, for_input, for_new, for_text}
+use Rattle.loss_engine.specs.LossWants.{ArePiecesOf, LossWants, ShowsNew, for_input, for_new, for_text}
 use Rattle.loss_engine.specs.Sights.{Key, Sight, same_key}
 use Rattle.loss_engine.specs.computed.Entries.{IsPeriodOf}
 use Rattle.loss_engine.specs.computed.Tracking.{Kept, Tracked, keep_all, kept_none, known_of, pieces_by, shows_new, sights_by}
 use Rattle.loss_engine.specs.computed.Wanting.{Wanting, by_input, by_new, by_text}
-use Rattle.loss_engine.proofs.LossLaws.{Follows, follows_all, losses_are, pieces_sizes, pieces_tell_all, sights_there}
+use Rattle.loss_engine.proofs.LossLaws.{Follows, follows_all, pieces_sizes, pieces_tell_all, sights_there}
 
 -- ---- a key that is not tracked was not shown
 
@@ -75,42 +71,3 @@ module _ {A F : Type 0} (period : Option ℕ) (is : IsPeriodOf period) (style : 
   loss_wants written (by_new events next others by says new) =
       new_wanted written events next others by says (shown_new period is events (keep_all period kept_none events) next (follows_all period is events) new)
   loss_wants written (by_text next others says some) = for_text next others says some
-
--- ---- a run
-
--- where other things may be wanted of the same items
-module _ {X C F : Type 0} (Keeps More : List (ℕ × X) → Type 0) (more : (items : List (ℕ × X)) → Keeps items → More items) (refused : ℕ → C → F) (failed : F → Bool) (t : Allowed X C F) where
-  ends_more : (items : List (ℕ × X)) (texts : List ItemText) (onward : Numbered X F) (ending : Ending) (fault : Option F) (held new : Option (List ℕ)) →
-      EndsOnward Keeps refused failed t items texts onward ending fault held new → EndsOnward More refused failed t items texts onward ending fault held new
-  ends_more items texts onward ending fault held new h = elim h [
-    | inl e ↦ inl e
-    | inr (inl e) ↦ inr (inl e)
-    | inr (inr (inl e)) ↦ inr (inr (inl e))
-    | inr (inr (inr e)) ↦ inr (inr (inr (record {
-      has_ending = e.has_ending;
-      by_none = e.by_none;
-      wanted = elim e.wanted [ inl keeps ↦ inl (more items keeps) | inr some ↦ inr some ];
-      no_more = e.no_more;
-    })))
-  ]
-
-  run_more : (said : Numbered X F) (ending : Ending) (fault : Option F) (old new : Option (List ℕ)) → InputRun Keeps refused failed t said ending fault old new → InputRun More refused failed t said ending fault old new
-  run_more said ending fault old new run = record {
-    items = run.items;
-    texts = run.texts;
-    are_texts = run.are_texts;
-    held = run.held;
-    written = run.written;
-    onward = run.onward;
-    says = run.says;
-    ends = ends_more run.items run.texts run.onward ending fault run.held new run.ends;
-  }
-
--- a run by what is kept writes what the definitions say
-pub writes_losses : {A C F : Type 0} (period : Option ℕ) (style : Style) (Keeps : List (ℕ × Event A) → Type 0) (refused : ℕ → C → F) (failed : F → Bool) (last_line last_object : F → List ℕ) (said : Numbered (Event A) F) (ending : Ending) (fault : Option F) (old new : Option (List ℕ)) →
-    IsPeriodOf period → LossRun period style Keeps refused failed last_line last_object said ending fault old new → WritesLosses period style Keeps refused failed last_line last_object said ending fault old new
-writes_losses period style Keeps refused failed last_line last_object said ending fault old new is l = record {
-  pieces = l.pieces;
-  are = subst (λ p. AreLosses period style said p) (sym l.are) (losses_are period style l.number said is);
-  run = run_more _ _ (loss_wants period is style Keeps said l.pieces) refused failed _ l.pieces ending fault old new l.run;
-}

@@ -1,6 +1,6 @@
 -- What the definitions say of an input is one: two readings write the same texts one after another.
 use Rattle.std.proofs.Common.{Option, Some, None, ◌≡◌, ℕ, zero, suc, ◌<◌, false, List, [], ◌∷◌, ◌++◌, length, map, take, ap, ap₂, refl, ◌∙◌, sym, subst, arith}
-use Rattle.std.specs.Prelude.{slice_get}
+use Rattle.std.specs.Prelude.{◌||◌, is_some, slice_get}
 use Rattle.std.specs.List.{list_any}
 use Rattle.std.proofs.lemmas.List.{map-append}
 use Rattle.std.proofs.lemmas.Option.{slice_get_within}
@@ -25,8 +25,9 @@ use Rattle.loss_core.specs.Findings.{came_told, frame_findings, has_loss, synch_
 use Rattle.loss_engine.specs.Findings.{TellsShown, last_of}
 use Rattle.loss_engine.specs.LossLine.{sender_total_line, stream_total_line}
 use Rattle.loss_engine.specs.LossObject.{sender_total_object, stream_total_object}
-use Rattle.loss_engine.specs.LossText.{AreLosses, ClosesBy, ClosesKey, IsClosing, TellsEvent, closing_in, end_silent, form_of, line_of, sight_lines, sights_at, stale, styled, with_end}
+use Rattle.loss_engine.specs.LossText.{AreLosses, ClosesBy, ClosesKey, IsClosing, TellsEvent, back_lines, closing_in, end_silent, form_of, line_of, sight_lines, sights_at, stale, styled, with_end}
 use Rattle.loss_engine.specs.Sights.{Key, Shown, Sight, frame, sample, sender, stream, frames_of, greatest_moment, keys_in, samples_of, sights_in, synchs_of}
+use Rattle.loss_engine.proofs.TimesBack.{back_once}
 
 -- two lists of a length are one where their items at each position are
 same_items : {X : Type 0} (xs ys : List X) → length xs ≡ length ys → ((i : ℕ) (x y : X) → slice_get xs i ≡ Some x → slice_get ys i ≡ Some y → x ≡ y) → xs ≡ ys
@@ -55,8 +56,9 @@ event_once period style before e w v p q =
     let same : p.findings ≡ q.findings = same_items p.findings q.findings (p.sizes ∙ sym q.sizes) (λ i fs gs x y.
     let s = there p.findings (sights_at before e) p.sizes i fs x in
     shown_once period (sights_in before ++ take i (sights_at before e)) s.0.key s.0.moment s.0.shown fs gs (p.each i s.0 fs s.1 x) (q.each i s.0 gs s.1 y)) in
-    let text : w.text ≡ v.text = p.text ∙ (ap (λ l. styled style e.1.moment (λ form. sight_lines form e.0 e.1.moment (sights_at before e) l)) same ∙ sym q.text) in
-    let found : w.is_finding ≡ v.is_finding = p.found ∙ (ap (list_any has_loss) same ∙ sym q.found) in
+    let back : p.back ≡ q.back = back_once before e p.back q.back p.goes_back q.goes_back in
+    let text : w.text ≡ v.text = p.text ∙ (ap₂ (λ b l. styled style e.1.moment (λ form. back_lines form e.0 e.1.moment b ++ sight_lines form e.0 e.1.moment (sights_at before e) l)) back same ∙ sym q.text) in
+    let found : w.is_finding ≡ v.is_finding = p.found ∙ (ap₂ (λ (b : Option ℕ) (l : List (List Finding)). is_some b || list_any has_loss l) back same ∙ sym q.found) in
     λ j. record { text = text j; is_finding = found j }
 
 -- ---- the end of the input

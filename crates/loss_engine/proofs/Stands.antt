@@ -67,15 +67,15 @@ abbrev pub HoldsFrames : List Arrival → Option Progress → Type 0
 HoldsFrames fs None = fs ≡ []
 HoldsFrames fs (Some (frames t)) = TallyStandsAfter fs t
 HoldsFrames fs (Some (samples u z)) = ⊥
-HoldsFrames fs (Some (counted n)) = ⊥
+HoldsFrames fs (Some (counted n z)) = ⊥
 
 abbrev pub HoldsSamples : Option ℕ → List Sample → List ℕ → Option Progress → Type 0
 HoldsSamples period ss zs None = (ss ≡ []) × (zs ≡ [])
 HoldsSamples period ss zs (Some (frames t)) = ⊥
 HoldsSamples None ss zs (Some (samples u z)) = ⊥
 HoldsSamples (Some period) ss zs (Some (samples u z)) = (u.stream.period ≡ period) × StreamTallyStandsAfter ss u × (last_of zs ≡ Some z)
-HoldsSamples None ss zs (Some (counted n)) = n ≡ kept (length ss)
-HoldsSamples (Some period) ss zs (Some (counted n)) = ⊥
+HoldsSamples None ss zs (Some (counted n z)) = (n ≡ kept (length ss)) × (last_of zs ≡ Some z)
+HoldsSamples (Some period) ss zs (Some (counted n z)) = ⊥
 
 abbrev pub Holds : Option ℕ → Key → List Arrival → List Sample → List ℕ → Option Progress → Type 0
 Holds period (sender a r s) fs ss zs known = HoldsFrames fs known
@@ -98,11 +98,11 @@ holds_frame : (fs : List Arrival) (known : Option Progress) (period : Option ℕ
 holds_frame fs None period a h = subst (λ l. TallyStandsAfter (l ++ a ∷ []) (first_tally a)) (sym h) (senders.tally_first a)
 holds_frame fs (Some (frames t)) period a h = senders.tally_next fs t a h
 holds_frame fs (Some (samples u z)) period a h = absurd h
-holds_frame fs (Some (counted n)) period a h = absurd h
+holds_frame fs (Some (counted n z)) period a h = absurd h
 
 holds_sample : (period : Option ℕ) (ss : List Sample) (zs : List ℕ) (known : Option Progress) (moment count synch : ℕ) → IsPeriodOf period → HoldsSamples period ss zs known →
     HoldsSamples period (ss ++ record { count = count; moment = moment } ∷ []) (zs ++ synch ∷ []) (Some (after_more known (first_progress period moment (sample count synch)) (more_progress moment (sample count synch))))
-holds_sample None ss zs None moment count synch is h = subst (λ (l : List Sample). 1 ≡ kept (length (l ++ record { count = count; moment = moment } ∷ []))) (sym h.0) refl
+holds_sample None ss zs None moment count synch is h = (subst (λ (l : List Sample). 1 ≡ kept (length (l ++ record { count = count; moment = moment } ∷ []))) (sym h.0) refl, last_push zs synch)
 holds_sample (Some period) ss zs None moment count synch is h =
     let s : Sample = record { count = count; moment = moment } in
     let in_range = is period refl in (
@@ -119,8 +119,8 @@ holds_sample (Some period) ss zs (Some (samples u z)) moment count synch is h =
       streams.tally_next ss u (record { count = count; moment = moment }) (subst (λ n. 0 < n) (sym h.0) in_range.0) (subst (λ n. n ≤ 65536) (sym h.0) in_range.1) h.1,
       last_push zs synch,
     )
-holds_sample None ss zs (Some (counted n)) moment count synch is h = counted_push n ss (record { count = count; moment = moment }) h
-holds_sample (Some period) ss zs (Some (counted n)) moment count synch is h = absurd h
+holds_sample None ss zs (Some (counted n z)) moment count synch is h = (counted_push n ss (record { count = count; moment = moment }) h.0, last_push zs synch)
+holds_sample (Some period) ss zs (Some (counted n z)) moment count synch is h = absurd h
 
 holds_on : (period : Option ℕ) (key : Key) (fs : List Arrival) (ss : List Sample) (zs : List ℕ) (known : Option Progress) (moment : ℕ) (shown : Shown) → IsPeriodOf period → IsKind key shown → Holds period key fs ss zs known →
     Holds period key (fs ++ arrival_in moment shown) (ss ++ sample_in moment shown) (zs ++ synch_in shown) (Some (after_more known (first_progress period moment shown) (more_progress moment shown)))
@@ -135,11 +135,14 @@ tells_frame : (period : Option ℕ) (earlier : List Sight) (key : Key) (known : 
 tells_frame period earlier key None moment a h = (told_after None a, subst (λ l. IsToldLast l a (told_after None a)) (sym h) (told_first a), refl)
 tells_frame period earlier key (Some (frames t)) moment a h = (told_after (Some t.sender) a, senders.tally_told (frames_of key earlier) t a (told_after (Some t.sender) a) refl h, refl)
 tells_frame period earlier key (Some (samples u z)) moment a h = absurd h
-tells_frame period earlier key (Some (counted n)) moment a h = absurd h
+tells_frame period earlier key (Some (counted n z)) moment a h = absurd h
 
 tells_sample : (period : Option ℕ) (earlier : List Sight) (key : Key) (known : Option Progress) (moment count synch : ℕ) → IsPeriodOf period → HoldsSamples period (samples_of key earlier) (synchs_of key earlier) known →
     TellsShown period earlier key moment (sample count synch) (findings_by period known moment (sample count synch))
-tells_sample None earlier key known moment count synch is h = refl
+tells_sample None earlier key None moment count synch is h = ap (λ l. synch_told (last_of l) synch) (sym h.1)
+tells_sample None earlier key (Some (frames t)) moment count synch is h = absurd h
+tells_sample None earlier key (Some (samples u z)) moment count synch is h = absurd h
+tells_sample None earlier key (Some (counted n z)) moment count synch is h = ap (λ o. synch_told o synch) (sym h.1)
 tells_sample (Some period) earlier key None moment count synch is h =
     let in_range = is period refl in
     let s : Sample = record { count = count; moment = moment } in (
@@ -159,7 +162,7 @@ tells_sample (Some period) earlier key (Some (samples u z)) moment count synch i
           (subst (λ n. 0 < n) (sym h.0) in_range.0) (subst (λ n. n ≤ 65536) (sym h.0) in_range.1) refl h.1),
       ap (λ o. came_told period count c ++ synch_told o synch) (sym h.2),
     )
-tells_sample (Some period) earlier key (Some (counted n)) moment count synch is h = absurd h
+tells_sample (Some period) earlier key (Some (counted n z)) moment count synch is h = absurd h
 
 tells_by : (period : Option ℕ) (earlier : List Sight) (key : Key) (known : Option Progress) (moment : ℕ) (shown : Shown) → IsPeriodOf period → IsKind key shown → Holds period key (frames_of key earlier) (samples_of key earlier) (synchs_of key earlier) known →
     TellsShown period earlier key moment shown (findings_by period known moment shown)

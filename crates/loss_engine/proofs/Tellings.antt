@@ -13,14 +13,14 @@ use Rattle.loss_core.specs.declared.sender.Pair.{Pair}
 use Rattle.loss_core.specs.declared.sender.Told.{Told}
 use Rattle.loss_core.specs.declared.stream.Came.{Came}
 use Rattle.loss_core.specs.Sender.{told_after}
-use Rattle.loss_core.specs.Findings.{came_told, frame_findings, has_loss, synch_told}
-use Rattle.loss_engine.specs.LossText.{told_line}
+use Rattle.loss_core.specs.Findings.{count_told, frame_findings, has_loss, synch_told}
+use Rattle.loss_engine.specs.LossText.{back_lines, told_line}
 use Rattle.pdu_core.specs.SampledViews.{asdu_of}
 use Rattle.pdu_core.specs.declared.sampled.asdu.Asdu.{Asdu}
 use Rattle.pdu_core.specs.declared.sampled.view.AsduView.{AsduView}
 use Rattle.loss_engine.specs.Sights.{Key, Sight, frame, same_key, sample, sight_of_asdu}
-use Rattle.loss_engine.specs.computed.Telling.{TellsSights, WantsFor, sights_text}
-use Rattle.loss_engine.specs.computed.Tracking.{CountsAs, Kept, Tracked, came_by, findings_all, findings_by, known_of, Progress, sender_of, shows_new, synch_of, track, track_all, with_progress}
+use Rattle.loss_engine.specs.computed.Telling.{TellsSights, WantsAll, WantsFor, sights_text}
+use Rattle.loss_engine.specs.computed.Tracking.{CountsAs, Kept, Tracked, findings_all, findings_by, known_of, Progress, sender_of, shows_new, track, track_all, with_progress}
 
 -- a line is not empty
 behind_some : (xs : List ℕ) (c : ℕ) (ys : List ℕ) → xs ++ c ∷ ys ≡ [] → ⊥
@@ -30,6 +30,12 @@ behind_some (x ∷ xs) c ys h = cc
 told_some : (form : Form) (n moment : ℕ) (key : Key) (f : Finding) → told_line form n moment key f ≡ [] → ⊥
 told_some Text n moment key f h = behind_some _ 32 _ h
 told_some (Object counted) n moment key f h = cc
+
+-- where nothing is written of it, time does not go back
+back_none : (form : Form) (n moment : ℕ) (back : Option ℕ) → back_lines form n moment back ≡ [] → back ≡ None
+back_none form n moment None h = refl
+back_none Text n moment (Some by) h = absurd (behind_some _ 32 _ h)
+back_none (Object counted) n moment (Some by) h = cc
 
 or_true : (b : Bool) → (b || true) ≡ true
 or_true true = refl
@@ -67,15 +73,22 @@ wants_frame h period k key p lifetime f t is told some =
     (ap₂ (λ x y. frame_findings x y) is (told ∙ ap (λ x. told_after (sender_of (known_of k.tracked key)) x) is)) some
 
 -- and for what a sample tells
-pub wants_sample : (h : Heading) (period : Option ℕ) (n : ℕ) (k : Kept) (key : Key) (count synch : ℕ) (came : Came) (before : Option ℕ) (taken : Option (Came × Option ℕ)) →
-    period ≡ Some n → taken ≡ Some (came, before) → CountsAs period (known_of k.tracked key) (record { count = count; moment = k.moment }) taken → (came_told n count came ++ synch_told before synch ≡ [] → ⊥) →
+pub wants_sample : (h : Heading) (period : Option ℕ) (k : Kept) (key : Key) (count synch : ℕ) (taken : Option Came × Option ℕ) →
+    CountsAs period (known_of k.tracked key) (record { count = count; moment = k.moment }) taken → (count_told period count taken.0 ++ synch_told taken.1 synch ≡ [] → ⊥) →
     WantsFor h period k (record { key = key; moment = k.moment; shown = sample count synch } ∷ [])
-wants_sample h None n k key count synch came before taken is got counts some = cc
-wants_sample h (Some m) n k key count synch came before taken is got counts some =
-    let same : m ≡ n = cc in
-    let pair : (came, before) ≡ (came_by m (known_of k.tracked key) (record { count = count; moment = k.moment }), synch_of (known_of k.tracked key)) = cc in
-    wants_text h (Some m) k (record { key = key; moment = k.moment; shown = sample count synch }) (came_told n count came ++ synch_told before synch)
-    (ap (λ x. came_told x count came ++ synch_told before synch) (sym same) ∙ ap (λ (p : Came × Option ℕ). came_told m count p.0 ++ synch_told p.1 synch) pair) some
+wants_sample h period k key count synch taken counts some =
+    wants_text h period k (record { key = key; moment = k.moment; shown = sample count synch }) (count_told period count taken.0 ++ synch_told taken.1 synch)
+    (ap (λ (p : Option Came × Option ℕ). count_told period count p.0 ++ synch_told p.1 synch) counts) some
+
+-- for that time goes back
+pub wants_back : (h : Heading) (back period : Option ℕ) (k : Kept) (seen : List Sight) → (back ≡ None → ⊥) → WantsAll h back period k seen
+wants_back h back period k seen some =
+    inr (λ none. some (back_none h.form h.number h.moment back (front_nil (back_lines h.form h.number h.moment back) (sights_text h period k.tracked seen) none)))
+
+-- for what an event tells, where it is for what its sights tell
+pub wants_sights : (h : Heading) (back period : Option ℕ) (k : Kept) (seen : List Sight) → WantsFor h period k seen → WantsAll h back period k seen
+wants_sights h back period k seen (inl new) = inl new
+wants_sights h back period k seen (inr some) = inr (λ none. some (back_nil (back_lines h.form h.number h.moment back) (sights_text h period k.tracked seen) none))
 
 -- ---- sights, and others behind them
 
@@ -109,8 +122,8 @@ tells_then h period k mid after xs ys old between new f g p q = record {
       ∙ ap (λ l. old ++ l) (sym (text-append h period k.tracked xs ys));
   finds = ap₂ (λ a b. a || b) p.finds (q.finds ∙ ap (λ (m : Kept). list_any has_loss (findings_all period m.tracked ys)) p.keeps) ∙ sym (finds-append period k.tracked xs ys);
   keeps =
-      q.keeps ∙ ap (λ (m : Kept). record { moment = m.moment; tracked = track_all period m.tracked ys }) p.keeps
-      ∙ ap (λ t. record { moment = k.moment; tracked = t }) (sym (track-append period k.tracked xs ys));
+      q.keeps ∙ ap (λ (m : Kept). record { moment = m.moment; is_back = m.is_back; tracked = track_all period m.tracked ys }) p.keeps
+      ∙ ap (λ t. record { moment = k.moment; is_back = k.is_back; tracked = t }) (sym (track-append period k.tracked xs ys));
 }
 
 -- what is known stays so

@@ -5,6 +5,8 @@ use Rattle.std.specs.Fmt.{digits}
 use Rattle.std.specs.List.{flat_map}
 use Rattle.hex.specs.Hex.{encode_with}
 use Rattle.date_core.specs.DateText.{date_text, month_behind, year_behind}
+use Rattle.list_core.specs.declared.event.Event.{Event}
+use Rattle.list_core.specs.declared.event.EventKind.TheVariants.{Clock}
 use Rattle.object_core.specs.declared.counted.Counted.TheVariants.{Line}
 use Rattle.object_core.specs.declared.counted.Form.{Form}
 use Rattle.object_core.specs.declared.counted.Form.TheVariants.{Text, Object}
@@ -14,10 +16,11 @@ use Rattle.loss_core.specs.declared.stream.Came.{Came}
 use Rattle.loss_core.specs.declared.stream.Came.TheVariants as came
 use Rattle.loss_core.specs.declared.finding.Finding.TheVariants.{SampleRepeated}
 use Rattle.loss_core.specs.Findings.{came_told, frame_findings, has_loss, synch_told}
-use Rattle.loss_engine.specs.LossText.{end_silent, told_line}
+use Rattle.loss_engine.specs.LossText.{back_lines, end_silent, told_line}
 use Rattle.loss_engine.specs.LossLine.{samples_line, sender_total_line, stream_total_line}
 use Rattle.loss_engine.specs.LossObject.{sender_total_object, stream_total_object}
 use Rattle.loss_engine.specs.Sights.{Key, sender, stream}
+use Rattle.loss_engine.specs.computed.Tracking.{Kept, back_by, keep, kept_none}
 
 -- a control block
 abbrev G : Key
@@ -73,12 +76,37 @@ pub record AreSampleLines : Type 0 where
   pub out_of_range : counted Text 2 0 4000 came.OutOfRange ≡ codes "2 count-out-of-range appid=4000 source=020000000001 id=\"S\" cnt=4000\n"
   pub synch : flat_map (told_line Text 3 250 S) (synch_told (Some 2) 1) ≡ codes "3 synch appid=4000 source=020000000001 id=\"S\" from=2 to=1\n"
   pub same_synch : synch_told (Some 2) 2 ≡ []
+  -- one from before the first sample tells nothing
+  pub before_first : counted Text 3 0 99 came.BeforeFirst ≡ []
   -- a copy is no loss
   pub copy : has_loss (SampleRepeated 100 ∷ []) ≡ false
 
 sample_lines : AreSampleLines
 unfolding digits encode_with
-sample_lines = record { missing = refl; over = refl; a_second = refl; days = refl; late = refl; repeated = refl; out_of_range = refl; synch = refl; same_synch = refl; copy = refl }
+sample_lines = record { missing = refl; over = refl; a_second = refl; days = refl; late = refl; repeated = refl; out_of_range = refl; synch = refl; same_synch = refl; before_first = refl; copy = refl }
+
+-- an event of the clock
+abbrev clock : ℕ → Event (Unit {0})
+clock moment = record { kind = Clock; moment = moment }
+
+-- by how much time goes back at the last of events of the clock, behind others of which this is kept
+abbrev backs : List ℕ → Kept → List (Option ℕ)
+backs [] k = []
+backs (m ∷ ms) k = back_by k m ∷ backs ms (keep None k (clock m))
+
+pub record AreTimesBack : Type 0 where
+  pub line : back_lines Text 4 9000000 (Some 1000000) ≡ codes "4 time-back by=1000000\n"
+  pub object : back_lines (Object Line) 3 1 (Some 9999999) ≡ codes "{\"line\":3,\"microseconds\":1,\"time\":\"1970-01-01T00:00:00.000001Z\",\"kind\":\"time-back\",\"by\":9999999}\n"
+  pub none : back_lines Text 3 9000001 None ≡ []
+  -- a microsecond less than a second is not told, a second is
+  pub a_second : backs (10000000 ∷ 9000001 ∷ 9000000 ∷ []) kept_none ≡ None ∷ None ∷ Some 1000000 ∷ []
+  -- a run of times that are back is told once, the next one anew
+  pub once : backs (10000000 ∷ 1000000 ∷ 2000000 ∷ 9000001 ∷ 3000000 ∷ 10000001 ∷ 0 ∷ []) kept_none
+      ≡ None ∷ Some 9000000 ∷ None ∷ None ∷ Some 7000000 ∷ None ∷ Some 10000001 ∷ []
+
+times_back : AreTimesBack
+unfolding digits encode_with date_text month_behind year_behind
+times_back = record { line = refl; object = refl; none = refl; a_second = refl; once = refl }
 
 pub record AreClosingLines : Type 0 where
   pub silent : (end_silent Text G 9500000 (Some 2000000)).text ≡ codes "end silent appid=0001 ref=\"G\" sim=false since=2000000 for=7500000\n"

@@ -14,12 +14,13 @@ last_of [] = None
 last_of (x ∷ []) = Some x
 last_of (x ∷ y ∷ ys) = last_of (y ∷ ys)
 
--- what is told of what is shown of a key at a moment, after earlier sights; of samples nothing is told where no period is given
+-- What is told of what is shown of a key at a moment, after earlier sights. Of a sample it is what its count is, where a period is
+-- given, and that smpSynch is another than before.
 abbrev pub TellsShown : Option ℕ → List Sight → Key → ℕ → Shown → List Finding → Type 0
 TellsShown period earlier key moment (frame p lifetime) findings =
     (told : Told) × IsToldLast (frames_of key earlier) (record { pair = p; moment = moment; lifetime = lifetime }) told
     × (findings ≡ frame_findings (record { pair = p; moment = moment; lifetime = lifetime }) told)
-TellsShown None earlier key moment (sample count synch) findings = findings ≡ []
+TellsShown None earlier key moment (sample count synch) findings = findings ≡ synch_told (last_of (synchs_of key earlier)) synch
 TellsShown (Some period) earlier key moment (sample count synch) findings =
     (what : Came) × IsSampleToldLast period (samples_of key earlier) (record { count = count; moment = moment }) what
     × (findings ≡ came_told period count what ++ synch_told (last_of (synchs_of key earlier)) synch)

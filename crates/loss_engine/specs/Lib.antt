@@ -1,5 +1,6 @@
 pub mod Sights
 pub mod KeySaid
+pub mod TimeBack
 pub mod Findings
 pub mod LossLine
 pub mod LossObject

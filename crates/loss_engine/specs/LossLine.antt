@@ -53,6 +53,10 @@ finding_numbers (Synch from to) = numbered (codes " from=") from ∷ numbered (c
 abbrev pub finding_line : ℕ → Key → Finding → List ℕ
 finding_line n key f = concat (decimal n ∷ codes " " ∷ finding_word f ∷ key_text key ∷ (finding_numbers f ++ codes "\n" ∷ []))
 
+-- the line of a time that goes back
+abbrev pub time_back_line : ℕ → ℕ → List ℕ
+time_back_line n by = concat (decimal n ∷ numbered (codes " time-back by=") by ∷ codes "\n" ∷ [])
+
 -- a line of no event
 abbrev pub closing_line : List ℕ → Key → List (List ℕ) → List ℕ
 closing_line words key numbers = concat (words ∷ key_text key ∷ (numbers ++ codes "\n" ∷ []))

@@ -40,6 +40,10 @@ finding_fields (Synch from to) = (codes "from", decimal from) ∷ (codes "to", d
 abbrev pub finding_object : Counted → ℕ → ℕ → Key → Finding → List ℕ
 finding_object counted n moment key f = object_line (event_fields counted n moment (finding_word f) ++ (key_fields key ++ finding_fields f))
 
+-- the object of a time that goes back
+abbrev pub time_back_object : Counted → ℕ → ℕ → ℕ → List ℕ
+time_back_object counted n moment by = object_line (event_fields counted n moment (codes "time-back") ++ (codes "by", decimal by) ∷ [])
+
 -- an object of no event
 abbrev pub closing_object : List ℕ → Key → List Field → List ℕ
 closing_object kind key fields = object_line ((codes "kind", in_quotes kind) ∷ (key_fields key ++ fields))

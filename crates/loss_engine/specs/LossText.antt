@@ -1,5 +1,6 @@
--- What `losses` writes: of each event what its frame tells, and at the end of the input what has not come back and what came in all.
-use Rattle.std.specs.Prelude.{◌≡◌, ℕ, ◌+◌, ◌-◌, nat_le, Bool, true, false, List, [], ◌∷◌, ◌++◌, length, map, take, slice_get, codes, Option, Some, None, Ok, if◌then◌else◌}
+-- What `losses` writes: of each event that time goes back, where it does, and what its frame tells; and at the end of the input what
+-- has not come back and what came in all.
+use Rattle.std.specs.Prelude.{◌≡◌, ℕ, ◌+◌, ◌-◌, ◌||◌, nat_le, is_some, Bool, true, false, List, [], ◌∷◌, ◌++◌, length, map, take, slice_get, codes, Option, Some, None, Ok, if◌then◌else◌}
 use Rattle.std.specs.List.{flat_map, list_any}
 use Rattle.list_core.specs.declared.event.Event.{Event}
 use Rattle.list_core.specs.Items.{Numbered}
@@ -10,7 +11,7 @@ use Rattle.engine_core.specs.declared.style.Style.{Style}
 use Rattle.engine_core.specs.declared.style.Style.TheVariants.{Lines, Dated}
 use Rattle.engine_core.specs.Dated.{dated}
 use Rattle.engine_core.specs.EngineText.{ItemText, TextTo}
-use Rattle.engine_core.specs.EventsText.{line_in}
+use Rattle.engine_core.specs.EventsText.{FaultText, line_in}
 use Rattle.loss_core.specs.declared.sender_tally.SenderTally.{SenderTally}
 use Rattle.loss_core.specs.declared.sender_tally.SenderTotals.{SenderTotals}
 use Rattle.loss_core.specs.declared.stream.Came.{Came}
@@ -22,9 +23,10 @@ use Rattle.loss_core.specs.StreamTotals.{AreStreamTotals}
 use Rattle.loss_core.specs.declared.finding.Finding.{Finding}
 use Rattle.loss_core.specs.Findings.{has_loss}
 use Rattle.loss_engine.specs.Findings.{TellsSight}
-use Rattle.loss_engine.specs.LossLine.{end_silent_line, finding_line, samples_line, sender_total_line, stream_total_line}
-use Rattle.loss_engine.specs.LossObject.{end_silent_object, finding_object, samples_object, sender_total_object, stream_total_object}
+use Rattle.loss_engine.specs.LossLine.{end_silent_line, finding_line, samples_line, sender_total_line, stream_total_line, time_back_line}
+use Rattle.loss_engine.specs.LossObject.{end_silent_object, finding_object, samples_object, sender_total_object, stream_total_object, time_back_object}
 use Rattle.loss_engine.specs.Sights.{Key, Sight, sender, stream, frames_of, greatest_moment, keys_in, samples_of, sights_in, sights_of}
+use Rattle.loss_engine.specs.TimeBack.{TellsBack}
 
 -- ---- events
 
@@ -32,6 +34,12 @@ use Rattle.loss_engine.specs.Sights.{Key, Sight, sender, stream, frames_of, grea
 abbrev pub told_line : Form → ℕ → ℕ → Key → Finding → List ℕ
 told_line forms.Text n moment key f = finding_line n key f
 told_line (forms.Object counted) n moment key f = finding_object counted n moment key f
+
+-- that time goes back at an event by so much, where it does: a line, or an object
+abbrev pub back_lines : Form → ℕ → ℕ → Option ℕ → List ℕ
+back_lines form n moment None = []
+back_lines forms.Text n moment (Some by) = time_back_line n by
+back_lines (forms.Object counted) n moment (Some by) = time_back_object counted n moment by
 
 -- what is told of each of several sights, one after another
 abbrev pub sight_lines : Form → ℕ → ℕ → List Sight → List (List Finding) → List ℕ
@@ -48,13 +56,16 @@ styled Dated moment text = dated moment (text forms.Text)
 abbrev pub sights_at : {A : Type 0} → List (ℕ × Event A) → ℕ × Event A → List Sight
 sights_at before e = sights_of (greatest_moment (before ++ e ∷ [])) e.1.kind
 
--- What is written of an event after others, and whether it is a finding: of each sight what it tells after all before it.
+-- What is written of an event after others, and whether it is a finding: that time goes back, where it does; and of each sight what it
+-- tells after all before it.
 pub record TellsEvent {A : Type 0} (period : Option ℕ) (style : Style) (before : List (ℕ × Event A)) (e : ℕ × Event A) (w : ItemText) : Type 0 where
+  pub back : Option ℕ
+  pub goes_back : TellsBack before e back
   pub findings : List (List Finding)
   pub sizes : length findings ≡ length (sights_at before e)
   pub each : (i : ℕ) (s : Sight) (fs : List Finding) → slice_get (sights_at before e) i ≡ Some s → slice_get findings i ≡ Some fs → TellsSight period (sights_in before ++ take i (sights_at before e)) s fs
-  pub text : w.text ≡ styled style e.1.moment (λ form. sight_lines form e.0 e.1.moment (sights_at before e) findings)
-  pub found : w.is_finding ≡ list_any has_loss findings
+  pub text : w.text ≡ styled style e.1.moment (λ form. back_lines form e.0 e.1.moment back ++ sight_lines form e.0 e.1.moment (sights_at before e) findings)
+  pub found : w.is_finding ≡ (is_some back || list_any has_loss findings)
 
 -- ---- the end of the input
 
@@ -163,6 +174,12 @@ pub record AreLosses {A F : Type 0} (period : Option ℕ) (style : Style) (said 
   pub parts : pieces.items ≡ told ++ closing
   pub stops : pieces.stop ≡ said.stop
 
+-- how losses are told: of streams with so many samples a second, where that is given; in this style; and a fault of the input by such a line or object
+pub record Manner (F : Type 0) : Type 0 where
+  pub period : Option ℕ
+  pub style : Style
+  pub last : FaultText F
+
 -- each piece is written as it is, and the fault of the input by its line in a style
-abbrev pub written_pieces : {C F : Type 0} → Style → (F → List ℕ) → (F → List ℕ) → TextTo ItemText C F
-written_pieces style last_line last_object = record { first = []; of_item = λ before e. Ok (e.1.text, e.1.is_finding); last = λ f. line_in style (last_line f) (last_object f) }
+abbrev pub written_pieces : {C F : Type 0} → Manner F → TextTo ItemText C F
+written_pieces how = record { first = []; of_item = λ before e. Ok (e.1.text, e.1.is_finding); last = λ f. line_in how.style (how.last.line f) (how.last.object f) }

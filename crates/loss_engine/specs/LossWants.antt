@@ -1,13 +1,16 @@
 -- A run of `losses` in the words of the definitions: what it writes, and for what it may want memory.
-use Rattle.std.specs.Prelude.{◌≡◌, ℕ, Bool, false, List, [], Option, Some, length, take, slice_get}
+use Rattle.std.specs.Prelude.{◌≡◌, ◌≤◌, ◌⊎◌, ℕ, Bool, false, List, [], Option, Some, None, Ok, Err, length, take, slice_get}
 use Rattle.std.specs.List.{list_any}
+use Rattle.list_core.specs.declared.device.InputEnd.{InputEnd}
 use Rattle.list_core.specs.declared.event.Event.{Event}
 use Rattle.list_core.specs.Items.{Numbered, put_item, put_items}
+use Rattle.list_core.specs.ReadItems.{AnswerOf}
 use Rattle.engine_core.specs.declared.ending.Ending.{Ending}
 use Rattle.engine_core.specs.declared.style.Style.{Style}
 use Rattle.engine_core.specs.EngineText.{ItemText, exactly}
-use Rattle.engine_core.specs.InputRun.{InputRun}
-use Rattle.loss_engine.specs.LossText.{AreLosses, TellsEvent, sights_at, written_pieces}
+use Rattle.engine_core.specs.Input.{Input, IsRead, TellsNext}
+use Rattle.engine_core.specs.RunOver.{Run}
+use Rattle.loss_engine.specs.LossText.{AreLosses, Manner, TellsEvent, sights_at, written_pieces}
 use Rattle.loss_engine.specs.Sights.{Sight, keys_in, same_key, sights_in}
 
 -- the pieces of events: one for each, with its number
@@ -29,8 +32,27 @@ pub data LossWants {A F : Type 0} (period : Option ℕ) (style : Style) (Keeps :
       LossWants period style Keeps said pieces written
   for_text : (next : ℕ × ItemText) (others : Numbered ItemText F) → pieces ≡ put_items written (put_item next others) → (next.1.text ≡ [] → ⊥) → LossWants period style Keeps said pieces written
 
--- A run writes, piece by piece, what is told of an input that says these events; where it ends for want of memory, this is wanted so.
-pub record WritesLosses {A C F : Type 0} (period : Option ℕ) (style : Style) (Keeps : List (ℕ × Event A) → Type 0) (refused : ℕ → C → F) (failed : F → Bool) (last_line last_object : F → List ℕ) (said : Numbered (Event A) F) (ending : Ending) (fault : Option F) (old new : Option (List ℕ)) : Type 0 where
+-- Behind these pieces no more of an input of events was read than the next answer needs: they are of as many events, behind which it was read for this answer; or it has ended, and further ones are those at its end.
+pub record StandsBehind {A C F : Type 0} (input : Input (Event A) C F) (z : InputEnd) (read : List ℕ) (written : List (ℕ × ItemText)) : Type 0 where
+  pub events : List (ℕ × Event A)
+  pub answer : AnswerOf (Event A) F
+  pub is_read : IsRead input z read events answer
+  pub of_events : (length events ≡ length written) ⊎ ((answer ≡ Ok None) × (length events ≤ length written))
+
+-- These pieces were given, and then this answer: so it is told of the input, which was read no further than the answer needs. Memory is wanted only for this.
+pub record ArePiecesRead {A C F : Type 0} (input : Input (Event A) C F) (z : InputEnd) (read : List ℕ) (pieces : Numbered ItemText F) (Wants : List (ℕ × ItemText) → Type 0) (written : List (ℕ × ItemText)) (answer : AnswerOf ItemText F) : Type 0 where
+  pub onward : Numbered ItemText F
+  pub says : pieces ≡ put_items written onward
+  pub tells : TellsNext answer onward
+  pub stands : StandsBehind input z read written
+  pub wants : answer ≡ Err None → Wants written
+
+-- what an input has to keep behind these events
+abbrev pub KeepsBehind : {A C F : Type 0} → Input (Event A) C F → InputEnd → List ℕ → List (ℕ × Event A) → Type 0
+KeepsBehind input z read events = input.stands z read events (Err None)
+
+-- A run writes, piece by piece, what is told of an input; where it ends for want of memory, this is wanted so.
+pub record WritesLosses {A C F : Type 0} (how : Manner F) (input : Input (Event A) C F) (ending : Ending) (fault : Option F) (z : InputEnd) (read : List ℕ) (old new : Option (List ℕ)) : Type 0 where
   pub pieces : Numbered ItemText F
-  pub are : AreLosses period style said pieces
-  pub run : InputRun (LossWants period style Keeps said pieces) refused failed (exactly (written_pieces style last_line last_object)) pieces ending fault old new
+  pub are : AreLosses how.period how.style (input.says z read) pieces
+  pub run : Run (ArePiecesRead input z read pieces (LossWants how.period how.style (KeepsBehind input z read) (input.says z read) pieces)) input.faults (exactly (written_pieces how)) ending fault old new

@@ -9,4 +9,3 @@ pub mod Wanting
 pub mod NumberText
 pub mod KeyOrder
 pub mod Roll
-pub mod LossRun

@@ -1,16 +1,18 @@
 //! `losses`: what is missing of each control block and stream, when, and how much.
-ghost use Rattle.std.specs.Prelude.{◌≡◌, ◌++◌, [], IsOk, OnErr, OnOk, false, length, take};
+ghost use Rattle.std.specs.Prelude.{◌≡◌, ◌++◌, [], None, IsOk, OnErr, OnOk, false, length, take};
 ghost use Rattle.engine_core.specs.Ending.{is_write_fault};
 ghost use Rattle.engine_core.specs.EngineText.{exactly};
+ghost use Rattle.engine_core.specs.EventsText.{fault_text};
+ghost use Rattle.engine_core.specs.Input.{reader_of};
 ghost use Rattle.loss_engine.specs.LossText.{written_pieces};
 ghost use Rattle.loss_engine.specs.computed.Entries.{IsPeriodOf};
 ghost use Rattle.loss_engine.specs.computed.LossesOver.{LossesOver};
 
 use crate::losing::Losing;
 use crate::passage::Passage;
+use crate::unjudged::Unjudged;
 use engine_core::{Engine, Stopped, Style, put_fault_in, run_over};
-use frame_core::Event;
-use list_core::{InputFault, LineError, ReadItems, Sink};
+use list_core::{Event, InputFault, LineError, ReadItems, Sink};
 use object_core::LastObject;
 use std::alloc::{AllocError, Allocator};
 use text_core::LastLine;
@@ -37,7 +39,7 @@ struct Handing {
 impl<A: Allocator, F: InputFault + LastLine + LastObject> Engine<A, F> for Handing {
     type Item = Passage<A>;
 
-    ghost allows = { λ s. exactly (written_pieces s.style F.last_line F.last_object) };
+    ghost allows = { λ s. exactly (written_pieces (record { period = None; style = s.style; last = fault_text F.last_line F.last_object })) };
 
     ghost stands = { λ _ _. Unit {0} };
 
@@ -64,7 +66,7 @@ impl<A: Allocator, F: InputFault + LastLine + LastObject> Engine<A, F> for Handi
 
 /// Writes what is missing of each control block and stream that the events of a reader show, when a frame comes that shows it,
 /// and at the end of the events what has not come back and a total for each, in a style. Streams have so many samples a second,
-/// where that is given; else they are counted alone. Hands out how that ended, the fault by which it did, and the reader.
+/// where that is given; else they are counted alone, and noted. Hands out how that ended, the fault by which it did, and the reader.
 ///
 /// A frame, or an end, that tells a loss is a finding. Behind a fault of the input nothing is told of the end.
 pub fn losses_over<
@@ -72,10 +74,17 @@ pub fn losses_over<
     F: InputFault + LastLine + LastObject + Drop,
     I: ReadItems<A, Item = Event<A>, Fault = F>,
     W: Sink,
->(alloc: A, style: Style, events: I, period: Option<u32>, writer: &mut W) -> Stopped<I, F>
+>(
+    alloc: A,
+    style: Style,
+    events: I,
+    period: Option<u32>,
+    unjudged: &mut Unjudged<A>,
+    writer: &mut W,
+) -> Stopped<I, F>
     requires works { W.failed writer.old ≡ false }
     requires period { IsPeriodOf period }
-    ensures text { LossesOver style period I.answers I.number F.refused F.failed F.last_line F.last_object events result.ending result.fault result.reader (W.contents writer.old) (W.contents writer.new) }
+    ensures text { LossesOver (record { period = period; style = style; last = fault_text F.last_line F.last_object }) (reader_of I.answers I.number F.refused F.failed) events result (W.contents writer.old) (W.contents writer.new) }
     ensures fault { W.failed writer.new ≡ is_write_fault result.ending }
 {
     let passages = Losing::new(alloc, period, style, events);
@@ -84,6 +93,7 @@ pub fn losses_over<
         fault,
         reader,
     } = run_over(alloc, Handing { style }, b"", passages, writer);
+    reader.note_unjudged(alloc, unjudged);
     Stopped {
         ending,
         fault,

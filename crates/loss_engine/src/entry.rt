@@ -26,8 +26,8 @@ pub enum Progress {
     Frames(SenderTally),
     /// What the samples of a stream come to, and the last smpSynch.
     Samples(StreamTally, u8),
-    /// How many samples came, where no period is given.
-    Counted(u64),
+    /// How many samples came, where no period is given, and the last smpSynch.
+    Counted(u64, u8),
 }
 
 /// What tells senders and streams of one APPID and name apart.
@@ -114,6 +114,14 @@ impl<A: Allocator> Entry<A> {
         }
     }
 
+    /// The svID of a stream whose samples are counted alone.
+    pub fn unjudged_id(&self) -> Option<&[u8]> {
+        match &self.progress {
+            Progress::Counted(_, _) => Some(self.name.as_slice()),
+            Progress::Frames(_) | Progress::Samples(_, _) => None,
+        }
+    }
+
     /// What it comes to at the end.
     pub fn total(&self, end: u64) -> Closing<'_>
         ensures { (form : Form) → closing_item form end result ≡ total_by form end (entry_key self.now) (progress_of self.now.progress) }
@@ -125,7 +133,7 @@ impl<A: Allocator> Entry<A> {
                 Closing::Frames(key, with_end(since, tally.totals))
             }
             Progress::Samples(tally, _) => Closing::Samples(key, tally.totals()),
-            Progress::Counted(count) => Closing::Counted(key, *count),
+            Progress::Counted(count, _) => Closing::Counted(key, *count),
         }
     }
 }
@@ -139,26 +147,28 @@ impl Progress {
         match self {
             Progress::Frames(tally) => tally.take(frame),
             Progress::Samples(_, _) => first_told(),
-            Progress::Counted(_) => first_told(),
+            Progress::Counted(_, _) => first_told(),
         }
     }
 
-    /// Takes a sample of a stream with this smpSynch, and answers what it tells, and the smpSynch before; nothing, where samples
-    /// are counted alone.
-    pub fn take_sample(&mut self, sample: Sample, synch: u8) -> Option<(Came, u8)>
+    /// Takes a sample of a stream with this smpSynch, and answers what its count tells, unless samples are counted alone, and the
+    /// smpSynch before.
+    pub fn take_sample(&mut self, sample: Sample, synch: u8) -> (Option<Came>, Option<u8>)
         ensures told { TellsSample (progress_of self.old) sample result }
         ensures after { progress_of self.new ≡ more_samples sample synch (progress_of self.old) }
     {
         match self {
-            Progress::Frames(_) => None,
+            Progress::Frames(_) => (None, None),
             Progress::Samples(tally, last) => {
                 let before = *last;
                 *last = synch;
-                Some((tally.take(sample), before))
+                (Some(tally.take(sample)), Some(before))
             }
-            Progress::Counted(count) => {
+            Progress::Counted(count, last) => {
+                let before = *last;
+                *last = synch;
                 *count = count.saturating_add(1);
-                None
+                (None, Some(before))
             }
         }
     }
@@ -170,7 +180,7 @@ impl Progress {
         match self {
             Progress::Frames(tally) => over_at(tally.sender.deadline, end),
             Progress::Samples(tally, _) => stale(tally.newest(), end),
-            Progress::Counted(_) => None,
+            Progress::Counted(_, _) => None,
         }
     }
 }

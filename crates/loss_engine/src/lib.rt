@@ -12,7 +12,9 @@ mod passage;
 mod roll;
 mod telling;
 mod texts;
+mod unjudged;
 
 pub use crate::engine::losses_over;
 pub use crate::key::{Key, SenderKey, StreamKey};
+pub use crate::unjudged::Unjudged;
 pub use loss_core::Finding;

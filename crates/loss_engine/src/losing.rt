@@ -10,9 +10,9 @@ use crate::closing::put_closing;
 use crate::losses::Losses;
 use crate::passage::Passage;
 use crate::telling::put_event;
+use crate::unjudged::Unjudged;
 use engine_core::{Style, put_dated};
-use frame_core::Event;
-use list_core::{ReadError, ReadItems};
+use list_core::{Event, ReadError, ReadItems};
 use object_core::{Form, Heading};
 use std::alloc::{AllocError, Allocator};
 
@@ -61,6 +61,11 @@ impl<I, A: Allocator + Copy> Losing<I, A> {
         }
     }
 
+    /// Notes the streams whose samples are counted alone.
+    pub fn note_unjudged(&self, alloc: A, unjudged: &mut Unjudged<A>) {
+        self.losses.note_unjudged(alloc, unjudged);
+    }
+
     /// The reader whose events they are.
     pub fn into_events(self) -> I
         ensures { result ≡ events_of self }
@@ -94,7 +99,7 @@ impl<A: Allocator + Copy, I: ReadItems<A, Item = Event<A>>> Losing<I, A> {
         ensures events { events_of self.new ≡ events_of self.old }
         ensures closing { closing_of self.new ≡ closing_of self.old }
     {
-        self.losses.pass(event.moment);
+        let back = self.losses.pass(event.moment);
         match self.style {
             Style::Lines(form) => {
                 let heading = Heading {
@@ -102,7 +107,7 @@ impl<A: Allocator + Copy, I: ReadItems<A, Item = Event<A>>> Losing<I, A> {
                     number,
                     moment: event.moment,
                 };
-                put_event(alloc, &mut self.losses, out, heading, &event.kind)
+                put_event(alloc, &mut self.losses, out, heading, back, &event.kind)
             }
             Style::Dated => {
                 self.undated.clear();
@@ -112,7 +117,8 @@ impl<A: Allocator + Copy, I: ReadItems<A, Item = Event<A>>> Losing<I, A> {
                     moment: event.moment,
                 };
                 let undated = &mut self.undated;
-                let found = put_event(alloc, &mut self.losses, undated, heading, &event.kind)?;
+                let losses = &mut self.losses;
+                let found = put_event(alloc, losses, undated, heading, back, &event.kind)?;
                 put_dated(out, event.moment, self.undated.as_slice())?;
                 Ok(found)
             }

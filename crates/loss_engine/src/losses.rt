@@ -1,20 +1,34 @@
 //! What is kept of all senders and streams.
 
-ghost use Rattle.std.specs.Prelude.{◌≡◌, ◌∷◌, ◌++◌, ◌+◌, ◌*◌, ◌^◌, ◌<◌, ℕ, length, max, IfSome, [], IfOk, OnErr, OnOk, None, Some, slice_get};
+ghost use Rattle.std.specs.Prelude.{◌≡◌, ◌∷◌, ◌++◌, ◌+◌, ◌*◌, ◌^◌, ◌-◌, ◌<◌, ℕ, length, IfSome, [], IfOk, OnErr, OnOk, None, Some, slice_get};
 ghost use Rattle.loss_core.specs.Sender.{told_after};
 ghost use Rattle.loss_core.specs.computed.SenderTotalSteps.{first_tally};
 ghost use Rattle.loss_engine.specs.KeySaid.{key_said, sender_said, stream_said};
 ghost use Rattle.object_core.specs.declared.counted.Form.{Form};
 ghost use Rattle.loss_engine.specs.computed.Closing.{IsClosingAt, closing_item};
 ghost use Rattle.loss_engine.specs.computed.Entries.{IsPeriodOf, progress_of};
-ghost use Rattle.loss_engine.specs.computed.Tracking.{CountsAs, Progress as Known, TellsSample, frames, first_samples, known_of, more_frames, more_samples, sender_of, silences_by, totals_by, with_progress};
+ghost use Rattle.loss_engine.specs.computed.Tracking.{CountsAs, Progress as Known, TellsSample, back_by, back_where, came_in, frames, first_samples, kept_none, known_of, more_frames, more_samples, passed, sender_of, silences_by, totals_by, with_progress};
 
 use crate::closing::Closing;
 use crate::entry::{Entry, Progress, first_told};
 use crate::key::{Key, SenderKey, StreamKey};
 use crate::roll::Roll;
+use crate::unjudged::Unjudged;
 use loss_core::{Arrival, Came, Pair, Sample, SenderTally, StreamTally, Told};
 use std::alloc::{AllocError, Allocator};
+
+// How many microseconds below the greatest moment one lies at least that is far back.
+const FAR_BACK: u64 = 1_000_000;
+
+// By how much time goes back at an event, which is far back or not, by whether the one before was.
+fn told_back(is_far: bool, was_far: bool, by: u64) -> Option<u64>
+    ensures { result ≡ back_where is_far was_far by }
+{
+    match (is_far, was_far) {
+        (true, false) => Some(by),
+        (true, true) | (false, _) => None,
+    }
+}
 
 /// What is kept of senders and streams, in the order of their first occurrence.
 #[derive(Drop)]
@@ -22,6 +36,8 @@ pub struct Losses<A: Allocator> {
     period: Option<u32>,
     roll: Roll<A>,
     greatest: u64,
+    // Whether the last event was far back.
+    is_back: bool,
     ghost is_period: { IsPeriodOf period },
 }
 
@@ -32,12 +48,13 @@ impl<A: Allocator + Copy> Losses<A> {
     pub fn new(alloc: A, period: Option<u32>) -> Losses<A>
         requires { IsPeriodOf period }
         ensures period { period_by result ≡ period }
-        ensures none { kept_by result ≡ record { moment = 0; tracked = [] } }
+        ensures none { kept_by result ≡ kept_none }
     {
         Losses {
             period,
             roll: Roll::new(alloc),
             greatest: 0,
+            is_back: false,
         }
     }
 
@@ -56,18 +73,41 @@ impl<A: Allocator + Copy> Losses<A> {
         self.greatest
     }
 
-    /// A moment comes.
-    pub fn pass(&mut self, moment: u64)
+    /// A moment comes. Answers by how much time goes back with it, where it does.
+    #[inline(always)]
+    pub fn pass(&mut self, moment: u64) -> Option<u64>
+        ensures back { result ≡ back_by (kept_by self.old) moment }
         ensures period { period_by self.new ≡ period_by self.old }
-        ensures kept { kept_by self.new ≡ record { moment = max (kept_by self.old).moment moment; tracked = (kept_by self.old).tracked } }
+        ensures kept { kept_by self.new ≡ passed (kept_by self.old) moment }
     {
-        self.greatest = self.greatest.max(moment);
+        if self.greatest <= moment {
+            self.greatest = moment;
+            self.is_back = false;
+            None
+        } else {
+            self.pass_below(moment)
+        }
+    }
+
+    // A moment comes below the greatest one. A call of its own, since nearly every moment is the greatest.
+    #[inline(never)]
+    fn pass_below(&mut self, moment: u64) -> Option<u64>
+        requires { moment < (kept_by self.old).moment }
+        ensures back { result ≡ back_by (kept_by self.old) moment }
+        ensures period { period_by self.new ≡ period_by self.old }
+        ensures kept { kept_by self.new ≡ passed (kept_by self.old) moment }
+    {
+        let by = self.greatest - moment;
+        let is_far = by >= FAR_BACK;
+        let back = told_back(is_far, self.is_back, by);
+        self.is_back = is_far;
+        back
     }
 
     // Puts one more, with a key that none has.
     fn put(&mut self, alloc: A, key: Key<'_>, progress: Progress) -> Result<(), AllocError>
         requires { known_of (kept_by self.old).tracked (key_said key) ≡ None }
-        ensures put { OnOk result (kept_by self.new ≡ record { moment = (kept_by self.old).moment; tracked = (kept_by self.old).tracked ++ record { key = key_said key.entry; progress = progress_of progress } ∷ [] }) }
+        ensures put { OnOk result (kept_by self.new ≡ record (kept_by self.old) { tracked = (kept_by self.old).tracked ++ record { key = key_said key.entry; progress = progress_of progress } ∷ [] }) }
         ensures period { period_by self.new ≡ period_by self.old }
     {
         let entry = Entry::new(alloc, key, progress)?;
@@ -85,7 +125,7 @@ impl<A: Allocator + Copy> Losses<A> {
     ) -> Result<(Arrival, Told), AllocError>
         ensures arrival { IfOk result (λ r. r.0 ≡ record { pair = pair; moment = (kept_by self.old).moment; lifetime = 1000 * live }) }
         ensures told { IfOk result (λ r. r.1 ≡ told_after (sender_of (known_of (kept_by self.old).tracked (sender_said key.entry))) r.0) }
-        ensures kept { IfOk result (λ r. kept_by self.new ≡ record { moment = (kept_by self.old).moment; tracked = with_progress (kept_by self.old).tracked (sender_said key.entry) (frames (first_tally r.0)) (more_frames r.0) }) }
+        ensures kept { IfOk result (λ r. kept_by self.new ≡ record (kept_by self.old) { tracked = with_progress (kept_by self.old).tracked (sender_said key.entry) (frames (first_tally r.0)) (more_frames r.0) }) }
         ensures period { period_by self.new ≡ period_by self.old }
         ensures wants { OnErr result (known_of (kept_by self.old).tracked (sender_said key.entry) ≡ None) }
     {
@@ -107,14 +147,14 @@ impl<A: Allocator + Copy> Losses<A> {
         }
     }
 
-    // What a first sample tells, where a period is given.
-    fn first_came(&self, count: u16) -> Option<(Came, Option<u8>)>
-        ensures { (moment : ℕ) → CountsAs (period_by self.now) None (record { count = count; moment = moment }) result }
+    // What a first sample's count tells, where a period is given.
+    fn first_came(&self, count: u16) -> Option<Came>
+        ensures { (moment : ℕ) → result ≡ came_in (period_by self.now) None (record { count = count; moment = moment }) }
     {
         match self.period {
             None => None,
-            Some(period) if u32::from(count) < period => Some((Came::First, None)),
-            Some(_) => Some((Came::OutOfRange, None)),
+            Some(period) if u32::from(count) < period => Some(Came::First),
+            Some(_) => Some(Came::OutOfRange),
         }
     }
 
@@ -123,7 +163,7 @@ impl<A: Allocator + Copy> Losses<A> {
         ensures { progress_of result ≡ first_samples (period_by self.now) sample synch }
     {
         match self.period {
-            None => Progress::Counted(1),
+            None => Progress::Counted(1, synch),
             Some(period) => {
                 let mut tally = StreamTally::new(period);
                 tally.take(sample);
@@ -133,14 +173,15 @@ impl<A: Allocator + Copy> Losses<A> {
     }
 
     // What is answered of a sample of a stream that is known.
-    fn came_of(&self, answer: Option<(Came, u8)>, count: u16) -> Option<(Came, Option<u8>)>
+    fn came_of(&self, answer: (Option<Came>, Option<u8>), count: u16) -> (Option<Came>, Option<u8>)
         ensures { (known : Known) (moment : ℕ) → TellsSample known (record { count = count; moment = moment }) answer → CountsAs (period_by self.now) (Some known) (record { count = count; moment = moment }) result }
     {
-        match answer {
-            None => self.first_came(count),
-            Some((came, before)) => match self.period {
-                None => None,
-                Some(_) => Some((came, Some(before))),
+        let (came, before) = answer;
+        match came {
+            None => (self.first_came(count), before),
+            Some(came) => match self.period {
+                None => (None, before),
+                Some(_) => (Some(came), before),
             },
         }
     }
@@ -153,28 +194,28 @@ impl<A: Allocator + Copy> Losses<A> {
         key: StreamKey<'_>,
         sample: Sample,
         synch: u8,
-    ) -> Result<Option<(Came, Option<u8>)>, AllocError>
+    ) -> Result<(Option<Came>, Option<u8>), AllocError>
         requires { known_of (kept_by self.old).tracked (stream_said key) ≡ None }
         ensures told { IfOk result (λ r. CountsAs (period_by self.old) None sample r) }
-        ensures put { OnOk result (kept_by self.new ≡ record { moment = (kept_by self.old).moment; tracked = (kept_by self.old).tracked ++ record { key = stream_said key.entry; progress = first_samples (period_by self.old) sample synch } ∷ [] }) }
+        ensures put { OnOk result (kept_by self.new ≡ record (kept_by self.old) { tracked = (kept_by self.old).tracked ++ record { key = stream_said key.entry; progress = first_samples (period_by self.old) sample synch } ∷ [] }) }
         ensures period { period_by self.new ≡ period_by self.old }
     {
         let first = self.first_samples(sample, synch);
         self.put(alloc, Key::Stream(key), first)?;
-        Ok(self.first_came(sample.count))
+        Ok((self.first_came(sample.count), None))
     }
 
-    /// Takes a sample of a stream with this smpSynch, and answers what its count tells and the smpSynch before, where a period is
-    /// given. Memory is wanted for a new stream alone.
+    /// Takes a sample of a stream with this smpSynch, and answers what its count tells, where a period is given, and the smpSynch
+    /// before. Memory is wanted for a new stream alone.
     pub fn take_sample(
         &mut self,
         alloc: A,
         key: StreamKey<'_>,
         count: u16,
         synch: u8,
-    ) -> Result<Option<(Came, Option<u8>)>, AllocError>
+    ) -> Result<(Option<Came>, Option<u8>), AllocError>
         ensures told { IfOk result (λ r. CountsAs (period_by self.old) (known_of (kept_by self.old).tracked (stream_said key.entry)) (record { count = count; moment = (kept_by self.old).moment }) r) }
-        ensures kept { OnOk result (kept_by self.new ≡ record { moment = (kept_by self.old).moment; tracked = with_progress (kept_by self.old).tracked (stream_said key.entry) (first_samples (period_by self.old) (record { count = count; moment = (kept_by self.old).moment }) synch) (more_samples (record { count = count; moment = (kept_by self.old).moment }) synch) }) }
+        ensures kept { OnOk result (kept_by self.new ≡ record (kept_by self.old) { tracked = with_progress (kept_by self.old).tracked (stream_said key.entry) (first_samples (period_by self.old) (record { count = count; moment = (kept_by self.old).moment }) synch) (more_samples (record { count = count; moment = (kept_by self.old).moment }) synch) }) }
         ensures period { period_by self.new ≡ period_by self.old }
         ensures wants { OnErr result (known_of (kept_by self.old).tracked (stream_said key.entry) ≡ None) }
     {
@@ -188,6 +229,15 @@ impl<A: Allocator + Copy> Losses<A> {
                 Ok(self.came_of(answer, count))
             }
             None => self.take_first(alloc, key, sample, synch),
+        }
+    }
+
+    /// Notes the streams whose samples are counted alone.
+    pub fn note_unjudged(&self, alloc: A, unjudged: &mut Unjudged<A>) {
+        for at in 0..self.roll.len() {
+            if let Some(id) = self.roll.entry(at).unjudged_id() {
+                unjudged.take(alloc, id);
+            }
         }
     }
 

@@ -167,7 +167,12 @@ impl<A: Allocator + Copy> Roll<A> {
     }
 
     /// Hands a sample with this smpSynch to the stream at a position.
-    pub fn take_sample(&mut self, at: usize, sample: Sample, synch: u8) -> Option<(Came, u8)>
+    pub fn take_sample(
+        &mut self,
+        at: usize,
+        sample: Sample,
+        synch: u8,
+    ) -> (Option<Came>, Option<u8>)
         requires { at < length self.old }
         ensures told { (key : SpecKey) → IsFirstAt self.old key at → IfSome (known_of self.old key) (λ known. TellsSample known sample result) }
         ensures kept { (key : SpecKey) (first : Known) → IsFirstAt self.old key at → self.new ≡ with_progress self.old key first (more_samples sample synch) }

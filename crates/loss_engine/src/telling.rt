@@ -5,12 +5,13 @@ ghost use Rattle.pdu_core.specs.SampledViews.{asdu_of, asdus_left};
 ghost use Rattle.pdu_core.specs.Views.{pdu_of};
 ghost use Rattle.loss_engine.specs.Sights.{sight_of_asdu, sight_of_goose, sights_of};
 ghost use Rattle.loss_engine.specs.computed.Held.{kept_by, period_by};
-ghost use Rattle.loss_engine.specs.computed.Telling.{TellsSights, WantsFor};
+ghost use Rattle.loss_engine.specs.computed.Telling.{TellsAll, TellsSights, WantsAll, WantsFor};
 
 use crate::key::{Key, SenderKey, StreamKey};
 use crate::losses::Losses;
-use crate::texts::told::{put_frame, put_sample};
-use frame_core::{ApduView, EventKind, view_frame};
+use crate::texts::told::{put_back, put_frame, put_sample};
+use frame_core::{ApduView, view_frame};
+use list_core::EventKind;
 use loss_core::Pair;
 use object_core::Heading;
 use pdu_core::{AsduView, GooseView, SvView};
@@ -64,15 +65,10 @@ fn put_asdu<A: Allocator + Copy>(
         source,
         id: asdu.sv_id,
     };
-    let taken = losses.take_sample(alloc, key, asdu.smp_cnt, asdu.smp_synch)?;
-    let Some((came, before)) = taken else {
-        return Ok(false);
-    };
-    let Some(period) = losses.period() else {
-        return Ok(false);
-    };
     let count = asdu.smp_cnt;
     let synch = asdu.smp_synch;
+    let (came, before) = losses.take_sample(alloc, key, count, synch)?;
+    let period = losses.period();
     let found = put_sample(out, heading, key, period, count, came, before, synch)?;
     Ok(found)
 }
@@ -99,9 +95,9 @@ fn put_asdus<A: Allocator + Copy>(
     Ok(found)
 }
 
-/// Appends what the frame of an event tells, and answers whether it is a loss; nothing of the clock and of modes. Memory is wanted
-/// for a sender or a stream that is new, and for what is told.
-pub fn put_event<A: Allocator + Copy>(
+// Appends what the frame of an event tells, and answers whether it is a loss; nothing of the clock and of modes. Memory is wanted
+// for a sender or a stream that is new, and for what is told.
+fn put_frame_of<A: Allocator + Copy>(
     alloc: A,
     losses: &mut Losses<A>,
     out: &mut Vec<u8, A>,
@@ -131,4 +127,23 @@ pub fn put_event<A: Allocator + Copy>(
             ),
         },
     }
+}
+
+/// Appends what an event tells: that time goes back by so much, where it does, and what its frame tells. Answers whether it is a
+/// finding. Memory is wanted for a sender or a stream that is new, and for what is told.
+pub fn put_event<A: Allocator + Copy>(
+    alloc: A,
+    losses: &mut Losses<A>,
+    out: &mut Vec<u8, A>,
+    heading: Heading,
+    back: Option<u64>,
+    kind: &EventKind<A>,
+) -> Result<bool, AllocError>
+    ensures tells { IfOk result (λ found. TellsAll heading back (period_by losses.old) (kept_by losses.old) (sights_of (kept_by losses.old).moment kind.now) out.old.items found out.new.items (kept_by losses.new)) }
+    ensures period { period_by losses.new ≡ period_by losses.old }
+    ensures wants { OnErr result (WantsAll heading back (period_by losses.old) (kept_by losses.old) (sights_of (kept_by losses.old).moment kind.now)) }
+{
+    put_back(out, heading, back)?;
+    let found = put_frame_of(alloc, losses, out, heading, kind)?;
+    Ok(back.is_some() || found)
 }

@@ -1,7 +1,7 @@
 //! The lines of a script of `publish`: what they say, which may stand where, and why one is refused.
 
 use ber_core::Fault;
-use frame_core::MomentUnit;
+use list_core::MomentUnit;
 use mms_data::{UtcTime, ValueList};
 use publish_core::{Control, Step};
 use std::alloc::Allocator;

@@ -10,7 +10,8 @@ ghost use Rattle.script_core.specs.computed.ControlView.{control_seen, view_keep
 
 use crate::script::{ScriptCause, ScriptItem, ScriptPart};
 use block_core::commas::{fields_of, number_by, text_in, word_in};
-use frame_core::{LineError, VlanTag, cut_first};
+use frame_core::VlanTag;
+use list_core::{LineError, cut_first};
 use mms_data::Octets;
 use publish_core::{Control, MOST_STEPS, Step};
 use std::alloc::{AllocError, Allocator};

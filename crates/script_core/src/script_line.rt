@@ -11,7 +11,7 @@ use crate::script::{ScriptCause, ScriptItem, ScriptPart};
 use crate::script_control::{control_line, step_line};
 use block_core::commas::fields_of;
 use byteorder::{BigEndian, ByteOrder};
-use frame_core::{LineError, MomentUnit, cut_first, moment_in};
+use list_core::{LineError, MomentUnit, cut_first, moment_in};
 use mms_data::{ReadFault, UtcTime, ValueList, read_members};
 use std::alloc::Allocator;
 

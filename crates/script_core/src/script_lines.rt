@@ -3,7 +3,7 @@ ghost use Rattle.script_core.specs.Script.{script_rules};
 
 use crate::script::{ScriptCause, ScriptItem, ScriptLines, ScriptPart};
 use crate::script_line::line_in;
-use frame_core::{LineError, LineRules, MomentUnit};
+use list_core::{LineError, LineRules, MomentUnit};
 use std::alloc::Allocator;
 
 impl<A: Allocator + Copy> LineRules<A> for ScriptLines {

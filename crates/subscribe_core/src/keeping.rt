@@ -29,7 +29,8 @@ use crate::registers::{LiveState, Register};
 use crate::rows::{Reach, Rows};
 use crate::twice::{fault_of, first_twice_of_few};
 use block_core::Block;
-use frame_core::{ApduView, Event, EventKind, view_frame};
+use frame_core::{ApduView, view_frame};
+use list_core::{Event, EventKind};
 use std::alloc::{AllocError, Allocator};
 use std::marker::Model;
 
@@ -243,12 +244,14 @@ impl<A: Allocator + Copy> Keeper<A> {
         frame: &Received<'_>,
         entries: &mut Vec<Entry<A>, A>,
     ) -> Result<(), AllocError>
-        ensures entries { OnOk result (entries.new.items ≡ entries.old.items ++ (switched_entries self.old.state.mode (OfGoose (received_frame frame.now)) 0 self.old.state.blocks self.old.state.registers ++ said_of now self.old.state.mode self.old.state.blocks self.old.state.registers (OfGoose (received_frame frame.now)))) }
+        ensures entries { OnOk result (entries.new.items ≡ entries.old.items
+            ++ (switched_entries self.old.state.mode (OfGoose (received_frame frame.now)) 0 self.old.state.blocks self.old.state.registers ++ said_of now self.old.state.mode self.old.state.blocks self.old.state.registers (OfGoose (received_frame frame.now)))) }
         ensures registers { OnOk result (registers_after_clock now self.new.state.registers ≡ registers_by now self.old.state.mode (OfGoose (received_frame frame.now)) self.old.state.blocks self.old.state.registers) }
         ensures blocks { OnOk result (self.new.state.blocks ≡ self.old.state.blocks) }
         ensures mode { OnOk result (self.new.state.mode ≡ self.old.state.mode) }
         ensures moment { OnOk result (self.new.state.moment ≡ self.old.state.moment) }
-        ensures count { OnOk result (self.new.reaches + due_count now (helds self.new.state.registers) ≤ self.old.reaches + due_count now (helds self.old.state.registers) + 2) }
+        ensures count { OnOk result (self.new.reaches + due_count now (helds self.new.state.registers)
+            ≤ self.old.reaches + due_count now (helds self.old.state.registers) + 2) }
         ensures err { OnErr result (self.new.state ≡ self.old.state) }
         ensures err_looks { OnErr result (self.new.looks ≡ self.old.looks) }
     {
@@ -285,12 +288,14 @@ impl<A: Allocator + Copy> Keeper<A> {
         octets: &[u8],
         entries: &mut Vec<Entry<A>, A>,
     ) -> Result<(), AllocError>
-        ensures entries { OnOk result (entries.new.items ≡ entries.old.items ++ (switched_entries self.old.state.mode (content_by (frame_at octets.now)) 0 self.old.state.blocks self.old.state.registers ++ said_of now self.old.state.mode self.old.state.blocks self.old.state.registers (content_by (frame_at octets.now)))) }
+        ensures entries { OnOk result (entries.new.items ≡ entries.old.items
+            ++ (switched_entries self.old.state.mode (content_by (frame_at octets.now)) 0 self.old.state.blocks self.old.state.registers ++ said_of now self.old.state.mode self.old.state.blocks self.old.state.registers (content_by (frame_at octets.now)))) }
         ensures registers { OnOk result (registers_after_clock now self.new.state.registers ≡ registers_by now self.old.state.mode (content_by (frame_at octets.now)) self.old.state.blocks self.old.state.registers) }
         ensures blocks { OnOk result (self.new.state.blocks ≡ self.old.state.blocks) }
         ensures mode { OnOk result (self.new.state.mode ≡ mode_by (content_by (frame_at octets.now)) self.old.state.mode) }
         ensures moment { OnOk result (self.new.state.moment ≡ self.old.state.moment) }
-        ensures count { OnOk result (self.new.reaches + due_count now (helds self.new.state.registers) ≤ self.old.reaches + due_count now (helds self.old.state.registers) + 2) }
+        ensures count { OnOk result (self.new.reaches + due_count now (helds self.new.state.registers)
+            ≤ self.old.reaches + due_count now (helds self.old.state.registers) + 2) }
         ensures err { OnErr result (self.new.state ≡ self.old.state) }
         ensures err_looks { OnErr result (self.new.looks ≡ self.old.looks) }
     {
@@ -363,7 +368,8 @@ impl<A: Allocator + Copy> Keeper<A> {
         ensures blocks { OnOk result (self.new.state.blocks ≡ self.old.state.blocks) }
         ensures mode { OnOk result (self.new.state.mode ≡ on) }
         ensures moment { OnOk result (self.new.state.moment ≡ self.old.state.moment) }
-        ensures count { OnOk result ((now : ℕ) → self.new.reaches + due_count now (helds self.new.state.registers) ≤ self.old.reaches + due_count now (helds self.old.state.registers) + switched_count (switched_entries {A = A} self.old.state.mode (OfMode on) 0 self.old.state.blocks self.old.state.registers)) }
+        ensures count { OnOk result ((now : ℕ) → self.new.reaches + due_count now (helds self.new.state.registers)
+            ≤ self.old.reaches + due_count now (helds self.old.state.registers) + switched_count (switched_entries {A = A} self.old.state.mode (OfMode on) 0 self.old.state.blocks self.old.state.registers)) }
         ensures quiet { switched_entries self.old.state.mode (OfMode on) 0 self.old.state.blocks self.old.state.registers ≡ [] → IsOk result }
         ensures err { OnErr result (self.new.state ≡ self.old.state) }
         ensures err_looks { OnErr result (self.new.looks ≡ self.old.looks) }
@@ -385,12 +391,14 @@ impl<A: Allocator + Copy> Keeper<A> {
         kind: &EventKind<A>,
         entries: &mut Vec<Entry<A>, A>,
     ) -> Result<(), AllocError>
-        ensures entries { OnOk result (entries.new.items ≡ entries.old.items ++ (switched_entries self.old.state.mode (content_of kind.now) 0 self.old.state.blocks self.old.state.registers ++ said_of now self.old.state.mode self.old.state.blocks self.old.state.registers (content_of kind.now))) }
+        ensures entries { OnOk result (entries.new.items ≡ entries.old.items
+            ++ (switched_entries self.old.state.mode (content_of kind.now) 0 self.old.state.blocks self.old.state.registers ++ said_of now self.old.state.mode self.old.state.blocks self.old.state.registers (content_of kind.now))) }
         ensures registers { OnOk result (registers_after_clock now self.new.state.registers ≡ registers_by now self.old.state.mode (content_of kind.now) self.old.state.blocks self.old.state.registers) }
         ensures blocks { OnOk result (self.new.state.blocks ≡ self.old.state.blocks) }
         ensures mode { OnOk result (self.new.state.mode ≡ mode_by (content_of kind.now) self.old.state.mode) }
         ensures moment { OnOk result (self.new.state.moment ≡ self.old.state.moment) }
-        ensures count { OnOk result (self.new.reaches + due_count now (helds self.new.state.registers) ≤ self.old.reaches + due_count now (helds self.old.state.registers) + other_reaches kind.now (switched_entries self.old.state.mode (content_of kind.now) 0 self.old.state.blocks self.old.state.registers)) }
+        ensures count { OnOk result (self.new.reaches + due_count now (helds self.new.state.registers)
+            ≤ self.old.reaches + due_count now (helds self.old.state.registers) + other_reaches kind.now (switched_entries self.old.state.mode (content_of kind.now) 0 self.old.state.blocks self.old.state.registers)) }
         ensures quiet { IsFrame kind.now ⊎ (switched_entries self.old.state.mode (content_of kind.now) 0 self.old.state.blocks self.old.state.registers ≡ [] → IsOk result) }
         ensures err { OnErr result (self.new.state ≡ self.old.state) }
         ensures err_looks { OnErr result (self.new.looks ≡ self.old.looks) }

@@ -14,7 +14,7 @@ use crate::entry::Entry;
 use crate::fault::SubscribeFault;
 use crate::keeping::Keeper;
 use block_core::Block;
-use frame_core::Event;
+use list_core::Event;
 use std::alloc::{AllocError, Allocator};
 use std::marker::Model;
 

@@ -1,3 +1,2 @@
-pub mod LossesLemmas
 pub mod EventTaskLemmas
 pub mod PassedLemmas

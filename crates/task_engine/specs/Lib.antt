@@ -1,5 +1,5 @@
-pub mod TaskText
 pub mod EventTasks
+pub mod InputText
+pub mod TaskText
 pub mod RequestText
-pub mod LossesText
 pub mod HandedOut

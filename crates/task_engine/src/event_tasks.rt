@@ -2,6 +2,8 @@
 ghost use Rattle.std.specs.Prelude.{◌≡◌, false};
 ghost use Rattle.block_core.specs.Period.{IsPeriod};
 ghost use Rattle.engine_core.specs.Ending.{is_write_fault};
+ghost use Rattle.engine_core.specs.EventsText.{fault_text};
+ghost use Rattle.engine_core.specs.Input.{reader_of};
 ghost use Rattle.loss_engine.specs.computed.Entries.{IsPeriodOf};
 ghost use Rattle.words_core.specs.CommandLine.{Asked, check, list_blocks, losses, replay, show, watch};
 ghost use Rattle.task_engine.specs.EventTasks.{OverWrites};
@@ -9,10 +11,10 @@ ghost use Rattle.task_engine.specs.EventTasks.{OverWrites};
 use block_core::Block;
 use engine_core::{Stopped, Style};
 use exchange_engines::{ReplayStop, of_input, replay_over, watch_over};
-use frame_core::{Event, InputFault, ReadItems, Sink};
 use frame_engines::{check_over, show_over};
 use inventory_engine::blocks_over;
-use loss_engine::losses_over;
+use list_core::{Event, InputFault, ReadItems, Sink};
+use loss_engine::{Unjudged, losses_over};
 use object_core::LastObject;
 use std::alloc::Global;
 use text_core::LastLine;
@@ -29,7 +31,7 @@ pub trait EventTask {
         W: Sink,
     >(self, alloc: Global, style: Style, events: I, writer: &mut W) -> Stopped<I, ReplayStop<F>>
         requires works { W.failed writer.old ≡ false }
-        ensures text { OverWrites style (asked self) I.answers I.number F.refused F.failed F.last_line F.last_object events result.ending result.fault result.reader (W.contents writer.old) (W.contents writer.new) }
+        ensures text { OverWrites style (asked self) (reader_of I.answers I.number F.refused F.failed) (fault_text F.last_line F.last_object) events result (W.contents writer.old) (W.contents writer.new) }
         ensures fault { W.failed writer.new ≡ is_write_fault result.ending };
 }
 
@@ -133,13 +135,15 @@ impl EventTask for Watches<'_> {
 
 /// What is missing of each control block and stream, and at the end of the input what has not come back and what came in all.
 #[derive(Drop)]
-pub struct TellsLosses {
+pub struct TellsLosses<'a> {
     /// How many samples a second streams have, where that is given; else they are counted alone.
     pub period: Option<u32>,
+    /// The streams that are counted alone.
+    pub unjudged: &'a mut Unjudged<Global>,
     ghost is_period: { IsPeriodOf period },
 }
 
-impl EventTask for TellsLosses {
+impl EventTask for TellsLosses<'_> {
     ghost asked = { λ s. losses s.period };
 
     #[inline(never)]
@@ -148,7 +152,7 @@ impl EventTask for TellsLosses {
         I: ReadItems<Global, Item = Event<Global>, Fault = F>,
         W: Sink,
     >(self, alloc: Global, style: Style, events: I, writer: &mut W) -> Stopped<I, ReplayStop<F>> {
-        let TellsLosses { period } = self;
-        of_input(losses_over(alloc, style, events, period, writer))
+        let TellsLosses { period, unjudged } = self;
+        of_input(losses_over(alloc, style, events, period, unjudged, writer))
     }
 }

@@ -13,3 +13,4 @@ pub use crate::advising::{Advice, Intake, advice_by_head};
 pub use crate::performed::{Performed, Told};
 pub use crate::performing::{perform, perform_request};
 pub use crate::stop::Stop;
+pub use loss_engine::Unjudged;

@@ -5,10 +5,10 @@ ghost use Rattle.list_core.specs.declared.device.InputEnd.{InputEnd};
 ghost use Rattle.list_core.specs.Device.{GivesOctets};
 ghost use Rattle.engine_core.specs.declared.ending.Ending.{Ending};
 ghost use Rattle.engine_core.specs.Ending.{is_write_fault};
-ghost use Rattle.task_engine.specs.EventTasks.{EventsLeave};
-ghost use Rattle.task_engine.specs.LossesText.{LossesOfCapture, LossesOfList};
-ghost use Rattle.task_engine.specs.HandedOut.{InputTells, PassesWhere, stop_of};
-ghost use Rattle.task_engine.specs.RequestText.{EventsWrite, OfCapture, OfList, made_by, style_of};
+ghost use Rattle.task_engine.specs.EventTasks.{ended};
+ghost use Rattle.task_engine.specs.HandedOut.{PassesWhere, stop_of};
+ghost use Rattle.task_engine.specs.InputText.{InputTells};
+ghost use Rattle.task_engine.specs.RequestText.{EventsWrite, style_of};
 
 use crate::event_tasks::EventTask;
 use crate::performed::{
@@ -16,7 +16,8 @@ use crate::performed::{
 };
 use capture_core::PacketReader;
 use engine_core::Style;
-use frame_core::{EventLines, ItemReader, Sink, SkipOther, Source};
+use frame_core::SkipOther;
+use list_core::{EventLines, ItemReader, Sink, Source};
 use object_core::{Counted, Form};
 use std::alloc::Global;
 use words_core::{Options, Writing};
@@ -32,9 +33,7 @@ fn over_list<T: EventTask, R: Source, W: Sink>(
     requires open { R.ending reader ≡ InputEnd.Open }
     requires works { W.failed writer.old ≡ false }
     ensures text { (given : List ℕ) × GivesOctets (R.left reader) (R.left result.reader) given
-        × EventsLeave style (T.asked task) (OfList style (made_by false) result.ending (R.ending result.reader) given (W.contents writer.old) (W.contents writer.new)) (LossesOfList style (made_by false) result.ending (R.ending result.reader) given (W.contents writer.old) (W.contents writer.new)) result.ending (R.ending result.reader) given (W.contents writer.old) (W.contents writer.new) }
-    ensures told { (given : List ℕ) × GivesOctets (R.left reader) (R.left result.reader) given
-        × InputTells false style (made_by false) (T.asked task) result.ending (R.ending result.reader) given (W.contents writer.old) (W.contents writer.new) (stop_of result.told) }
+        × InputTells false false style (T.asked task) (ended result.ending (R.ending result.reader) given (W.contents writer.old) (W.contents writer.new)) (stop_of result.told) }
     ensures passed { PassesWhere false false result.ending (R.ending result.reader) (R.left reader) (R.left result.reader) result.passed }
     ensures read_fault { result.ending ≡ Ending.ReadFault → R.ending result.reader ≡ InputEnd.Failed }
     ensures fault { W.failed writer.new ≡ is_write_fault result.ending }
@@ -54,9 +53,7 @@ fn over_capture<T: EventTask, R: Source, W: Sink>(
     requires open { R.ending reader ≡ InputEnd.Open }
     requires works { W.failed writer.old ≡ false }
     ensures text { (given : List ℕ) × GivesOctets (R.left reader) (R.left result.reader) given
-        × EventsLeave style (T.asked task) (OfCapture style (made_by false) result.ending (R.ending result.reader) given (W.contents writer.old) (W.contents writer.new)) (LossesOfCapture style (made_by false) result.ending (R.ending result.reader) given (W.contents writer.old) (W.contents writer.new)) result.ending (R.ending result.reader) given (W.contents writer.old) (W.contents writer.new) }
-    ensures told { (given : List ℕ) × GivesOctets (R.left reader) (R.left result.reader) given
-        × InputTells true style (made_by false) (T.asked task) result.ending (R.ending result.reader) given (W.contents writer.old) (W.contents writer.new) (stop_of result.told) }
+        × InputTells true false style (T.asked task) (ended result.ending (R.ending result.reader) given (W.contents writer.old) (W.contents writer.new)) (stop_of result.told) }
     ensures passed { PassesWhere false true result.ending (R.ending result.reader) (R.left reader) (R.left result.reader) result.passed }
     ensures read_fault { result.ending ≡ Ending.ReadFault → R.ending result.reader ≡ InputEnd.Failed }
     ensures fault { W.failed writer.new ≡ is_write_fault result.ending }
@@ -75,9 +72,7 @@ fn over_passed_capture<T: EventTask, R: Source, W: Sink>(
     requires open { R.ending reader ≡ InputEnd.Open }
     requires works { W.failed writer.old ≡ false }
     ensures text { (given : List ℕ) × GivesOctets (R.left reader) (R.left result.reader) given
-        × EventsLeave style (T.asked task) (OfCapture style (made_by true) result.ending (R.ending result.reader) given (W.contents writer.old) (W.contents writer.new)) (LossesOfCapture style (made_by true) result.ending (R.ending result.reader) given (W.contents writer.old) (W.contents writer.new)) result.ending (R.ending result.reader) given (W.contents writer.old) (W.contents writer.new) }
-    ensures told { (given : List ℕ) × GivesOctets (R.left reader) (R.left result.reader) given
-        × InputTells true style (made_by true) (T.asked task) result.ending (R.ending result.reader) given (W.contents writer.old) (W.contents writer.new) (stop_of result.told) }
+        × InputTells true true style (T.asked task) (ended result.ending (R.ending result.reader) given (W.contents writer.old) (W.contents writer.new)) (stop_of result.told) }
     ensures passed { PassesWhere true true result.ending (R.ending result.reader) (R.left reader) (R.left result.reader) result.passed }
     ensures read_fault { result.ending ≡ Ending.ReadFault → R.ending result.reader ≡ InputEnd.Failed }
     ensures fault { W.failed writer.new ≡ is_write_fault result.ending }
@@ -97,9 +92,7 @@ fn over_passed_list<T: EventTask, R: Source, W: Sink>(
     requires open { R.ending reader ≡ InputEnd.Open }
     requires works { W.failed writer.old ≡ false }
     ensures text { (given : List ℕ) × GivesOctets (R.left reader) (R.left result.reader) given
-        × EventsLeave style (T.asked task) (OfList style (made_by true) result.ending (R.ending result.reader) given (W.contents writer.old) (W.contents writer.new)) (LossesOfList style (made_by true) result.ending (R.ending result.reader) given (W.contents writer.old) (W.contents writer.new)) result.ending (R.ending result.reader) given (W.contents writer.old) (W.contents writer.new) }
-    ensures told { (given : List ℕ) × GivesOctets (R.left reader) (R.left result.reader) given
-        × InputTells false style (made_by true) (T.asked task) result.ending (R.ending result.reader) given (W.contents writer.old) (W.contents writer.new) (stop_of result.told) }
+        × InputTells false true style (T.asked task) (ended result.ending (R.ending result.reader) given (W.contents writer.old) (W.contents writer.new)) (stop_of result.told) }
     ensures passed { PassesWhere true false result.ending (R.ending result.reader) (R.left reader) (R.left result.reader) result.passed }
     ensures read_fault { result.ending ≡ Ending.ReadFault → R.ending result.reader ≡ InputEnd.Failed }
     ensures fault { W.failed writer.new ≡ is_write_fault result.ending }
@@ -132,9 +125,7 @@ pub fn over_events<T: EventTask, R: Source, W: Sink>(
     requires open { R.ending reader ≡ InputEnd.Open }
     requires works { W.failed writer.old ≡ false }
     ensures text { (given : List ℕ) × GivesOctets (R.left reader) (R.left result.reader) given
-        × EventsWrite options (T.asked task) result.ending (R.ending result.reader) given (W.contents writer.old) (W.contents writer.new) }
-    ensures told { (given : List ℕ) × GivesOctets (R.left reader) (R.left result.reader) given
-        × InputTells options.is_capture (style_of options) (made_by options.skips_other) (T.asked task) result.ending (R.ending result.reader) given (W.contents writer.old) (W.contents writer.new) (stop_of result.told) }
+        × EventsWrite options (T.asked task) (ended result.ending (R.ending result.reader) given (W.contents writer.old) (W.contents writer.new)) (stop_of result.told) }
     ensures passed { PassesWhere options.skips_other options.is_capture result.ending (R.ending result.reader) (R.left reader) (R.left result.reader) result.passed }
     ensures read_fault { result.ending ≡ Ending.ReadFault → R.ending result.reader ≡ InputEnd.Failed }
     ensures fault { W.failed writer.new ≡ is_write_fault result.ending }

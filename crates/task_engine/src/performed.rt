@@ -3,15 +3,16 @@ ghost use Rattle.std.specs.Prelude.{◌≡◌, None, Some, option_map};
 ghost use Rattle.list_core.specs.ItemReader.{item_state};
 ghost use Rattle.capture_core.specs.PacketReader.{packet_state};
 ghost use Rattle.frame_core.specs.SkipOther.{beneath, passed_over};
-ghost use Rattle.task_engine.specs.HandedOut.{of_list, of_replay, of_stop, stop_of};
+ghost use Rattle.task_engine.specs.HandedOut.{stop_of};
+ghost use Rattle.task_engine.specs.InputText.{of_list, of_stop};
 
 use crate::advising::{Advice, advice_by_line};
 use crate::stop::Stop;
 use capture_core::{CaptureFault, PacketReader};
 use engine_core::{Ending, Stopped};
-use exchange_engines::{ReplayFault, ReplayStop};
+use exchange_engines::ReplayStop;
 use frame_core::{PassedOver, SkipOther};
-use list_core::{EventLines, ItemFault, ItemReader, ListCause, ListFault, Source, fault_of_list};
+use list_core::{EventLines, ItemFault, ItemReader, ListCause, Source, fault_of_list};
 use script_core::{ScriptCause, ScriptLines};
 use std::alloc::Global;
 
@@ -52,29 +53,12 @@ fn told_of<R: Source, G>(stop: Stop, line: u64, reader: &ItemReader<R, G>) -> To
     told_at(stop, reader.held_from(line).unwrap_or(b""))
 }
 
-// What a task leaves that ended by a fault of a list, or by none.
-#[inline(never)]
-fn of_list<R: Source>(
-    ending: Ending,
-    fault: Option<ListFault>,
-    reader: ItemReader<R, EventLines>,
-) -> Performed<R>
-    ensures ending { result.ending ≡ ending }
-    ensures left { R.left result.reader ≡ (item_state R.left R.ending reader).left }
-    ensures source { R.ending result.reader ≡ (item_state R.left R.ending reader).ending }
-    ensures told { stop_of result.told ≡ option_map Stop.List fault }
-    ensures passed { result.passed ≡ None }
+// What is told of the fault of a list.
+fn told_of_list<R: Source>(fault: &ItemFault<ListCause>, events: &ItemReader<R, EventLines>) -> Told
+    ensures { result.stop ≡ of_list fault.now }
 {
-    let told = match fault {
-        Some(fault) => Some(told_of(Stop::List(fault), fault.line, &reader)),
-        None => None,
-    };
-    Performed {
-        ending,
-        told,
-        passed: None,
-        reader: reader.into_reader(),
-    }
+    let fault = fault_of_list(fault);
+    told_of(Stop::List(fault), fault.line, events)
 }
 
 // What a task leaves that ran over a list of events.
@@ -93,38 +77,15 @@ pub fn of_events<R: Source>(
         fault,
         reader,
     } = stopped;
-    let fault = match &fault {
-        Some(fault) => Some(fault_of_list(fault)),
+    let told = match &fault {
+        Some(fault) => Some(told_of_list(fault, &reader)),
         None => None,
     };
-    of_list(ending, fault, reader)
-}
-
-// What a replay leaves.
-#[inline(never)]
-pub fn of_replay<R: Source>(
-    stopped: Stopped<ItemReader<R, EventLines>, ReplayFault>,
-) -> Performed<R>
-    ensures ending { result.ending ≡ stopped.ending }
-    ensures left { R.left result.reader ≡ (item_state R.left R.ending stopped.reader).left }
-    ensures source { R.ending result.reader ≡ (item_state R.left R.ending stopped.reader).ending }
-    ensures told { stop_of result.told ≡ option_map of_replay stopped.fault }
-    ensures passed { result.passed ≡ None }
-{
-    let Stopped {
+    Performed {
         ending,
-        fault,
-        reader,
-    } = stopped;
-    match fault {
-        Some(ReplayFault::SameBlockTwice(position)) => Performed {
-            ending,
-            told: Some(told_at(Stop::SameBlockTwice(position), b"")),
-            passed: None,
-            reader: reader.into_reader(),
-        },
-        Some(ReplayFault::List(fault)) => of_list(ending, Some(fault_of_list(&fault)), reader),
-        None => of_list(ending, None, reader),
+        told,
+        passed: None,
+        reader: reader.into_reader(),
     }
 }
 
@@ -262,10 +223,7 @@ fn told_of_events<R: Source>(
     ensures { stop_of result ≡ option_map (of_stop of_list) why }
 {
     match why {
-        Some(ReplayStop::Input(fault)) => {
-            let fault = fault_of_list(&fault);
-            Some(told_of(Stop::List(fault), fault.line, events))
-        }
+        Some(ReplayStop::Input(fault)) => Some(told_of_list(&fault, events)),
         Some(ReplayStop::SameBlockTwice(position)) => {
             Some(told_at(Stop::SameBlockTwice(position), b""))
         }

@@ -7,19 +7,21 @@ ghost use Rattle.engine_core.specs.Ending.{is_write_fault};
 ghost use Rattle.block_core.specs.Period.{IsPeriod};
 ghost use Rattle.loss_engine.specs.computed.Entries.{IsPeriodOf};
 ghost use Rattle.words_core.specs.CommandLine.{HasPeriod, asked_by, check, import, list_blocks, losses, publish, replay, rewrite, show, watch};
-ghost use Rattle.task_engine.specs.HandedOut.{InputTells, PassesWhere, RequestPasses, RequestTells, TaskTells, stop_of};
-ghost use Rattle.task_engine.specs.RequestText.{EventsWrite, RequestWrites, has_option, made_by, style_of};
+ghost use Rattle.task_engine.specs.EventTasks.{ended};
+ghost use Rattle.task_engine.specs.HandedOut.{PassesWhere, RequestPasses, stop_of};
+ghost use Rattle.task_engine.specs.RequestText.{EventsWrite, RequestWrites, has_option};
 ghost use Rattle.task_engine.specs.TaskText.{TaskWrites};
 
 use crate::event_tasks::{Checks, ListsBlocks, Replays, Shows, TellsLosses, Watches};
 use crate::over_events::over_events;
-use crate::performed::{Performed, of_capture, of_events, of_replay, of_script};
+use crate::performed::{Performed, of_capture, of_events, of_script, of_styled_events};
 use block_core::Block;
 use engine_core::Ending;
 use exchange_engines::{publish_to_stop, replay_to_stop, watch_to_stop};
 use frame_engines::{check_to_stop, import_to_stop, rewrite_to_stop, show_to_stop};
 use inventory_engine::blocks_to_stop;
 use list_core::{Sink, Source};
+use loss_engine::Unjudged;
 use std::alloc::Global;
 use words_core::{Options, Task, Writing};
 
@@ -28,9 +30,7 @@ fn perform_show<R: Source, W: Sink>(alloc: Global, reader: R, writer: &mut W) ->
     requires open { R.ending reader ≡ InputEnd.Open }
     requires works { W.failed writer.old ≡ false }
     ensures text { (given : List ℕ) × GivesOctets (R.left reader) (R.left result.reader) given
-        × TaskWrites show result.ending (R.ending result.reader) given (W.contents writer.old) (W.contents writer.new) }
-    ensures told { (given : List ℕ) × GivesOctets (R.left reader) (R.left result.reader) given
-        × TaskTells show result.ending (R.ending result.reader) given (W.contents writer.old) (W.contents writer.new) (stop_of result.told) }
+        × TaskWrites show (ended result.ending (R.ending result.reader) given (W.contents writer.old) (W.contents writer.new)) (stop_of result.told) }
     ensures passed { result.passed ≡ None }
     ensures read_fault { result.ending ≡ Ending.ReadFault → R.ending result.reader ≡ InputEnd.Failed }
     ensures fault { W.failed writer.new ≡ is_write_fault result.ending }
@@ -43,9 +43,7 @@ fn perform_check<R: Source, W: Sink>(alloc: Global, reader: R, writer: &mut W) -
     requires open { R.ending reader ≡ InputEnd.Open }
     requires works { W.failed writer.old ≡ false }
     ensures text { (given : List ℕ) × GivesOctets (R.left reader) (R.left result.reader) given
-        × TaskWrites check result.ending (R.ending result.reader) given (W.contents writer.old) (W.contents writer.new) }
-    ensures told { (given : List ℕ) × GivesOctets (R.left reader) (R.left result.reader) given
-        × TaskTells check result.ending (R.ending result.reader) given (W.contents writer.old) (W.contents writer.new) (stop_of result.told) }
+        × TaskWrites check (ended result.ending (R.ending result.reader) given (W.contents writer.old) (W.contents writer.new)) (stop_of result.told) }
     ensures passed { result.passed ≡ None }
     ensures read_fault { result.ending ≡ Ending.ReadFault → R.ending result.reader ≡ InputEnd.Failed }
     ensures fault { W.failed writer.new ≡ is_write_fault result.ending }
@@ -58,9 +56,7 @@ fn perform_rewrite<R: Source, W: Sink>(alloc: Global, reader: R, writer: &mut W)
     requires open { R.ending reader ≡ InputEnd.Open }
     requires works { W.failed writer.old ≡ false }
     ensures text { (given : List ℕ) × GivesOctets (R.left reader) (R.left result.reader) given
-        × TaskWrites rewrite result.ending (R.ending result.reader) given (W.contents writer.old) (W.contents writer.new) }
-    ensures told { (given : List ℕ) × GivesOctets (R.left reader) (R.left result.reader) given
-        × TaskTells rewrite result.ending (R.ending result.reader) given (W.contents writer.old) (W.contents writer.new) (stop_of result.told) }
+        × TaskWrites rewrite (ended result.ending (R.ending result.reader) given (W.contents writer.old) (W.contents writer.new)) (stop_of result.told) }
     ensures passed { result.passed ≡ None }
     ensures read_fault { result.ending ≡ Ending.ReadFault → R.ending result.reader ≡ InputEnd.Failed }
     ensures fault { W.failed writer.new ≡ is_write_fault result.ending }
@@ -73,9 +69,7 @@ fn perform_blocks<R: Source, W: Sink>(alloc: Global, reader: R, writer: &mut W) 
     requires open { R.ending reader ≡ InputEnd.Open }
     requires works { W.failed writer.old ≡ false }
     ensures text { (given : List ℕ) × GivesOctets (R.left reader) (R.left result.reader) given
-        × TaskWrites list_blocks result.ending (R.ending result.reader) given (W.contents writer.old) (W.contents writer.new) }
-    ensures told { (given : List ℕ) × GivesOctets (R.left reader) (R.left result.reader) given
-        × TaskTells list_blocks result.ending (R.ending result.reader) given (W.contents writer.old) (W.contents writer.new) (stop_of result.told) }
+        × TaskWrites list_blocks (ended result.ending (R.ending result.reader) given (W.contents writer.old) (W.contents writer.new)) (stop_of result.told) }
     ensures passed { result.passed ≡ None }
     ensures read_fault { result.ending ≡ Ending.ReadFault → R.ending result.reader ≡ InputEnd.Failed }
     ensures fault { W.failed writer.new ≡ is_write_fault result.ending }
@@ -88,9 +82,7 @@ fn perform_publish<R: Source, W: Sink>(alloc: Global, reader: R, writer: &mut W)
     requires open { R.ending reader ≡ InputEnd.Open }
     requires works { W.failed writer.old ≡ false }
     ensures text { (given : List ℕ) × GivesOctets (R.left reader) (R.left result.reader) given
-        × TaskWrites publish result.ending (R.ending result.reader) given (W.contents writer.old) (W.contents writer.new) }
-    ensures told { (given : List ℕ) × GivesOctets (R.left reader) (R.left result.reader) given
-        × TaskTells publish result.ending (R.ending result.reader) given (W.contents writer.old) (W.contents writer.new) (stop_of result.told) }
+        × TaskWrites publish (ended result.ending (R.ending result.reader) given (W.contents writer.old) (W.contents writer.new)) (stop_of result.told) }
     ensures passed { result.passed ≡ None }
     ensures read_fault { result.ending ≡ Ending.ReadFault → R.ending result.reader ≡ InputEnd.Failed }
     ensures fault { W.failed writer.new ≡ is_write_fault result.ending }
@@ -103,9 +95,7 @@ fn perform_import<R: Source, W: Sink>(alloc: Global, reader: R, writer: &mut W) 
     requires open { R.ending reader ≡ InputEnd.Open }
     requires works { W.failed writer.old ≡ false }
     ensures text { (given : List ℕ) × GivesOctets (R.left reader) (R.left result.reader) given
-        × TaskWrites import result.ending (R.ending result.reader) given (W.contents writer.old) (W.contents writer.new) }
-    ensures told { (given : List ℕ) × GivesOctets (R.left reader) (R.left result.reader) given
-        × TaskTells import result.ending (R.ending result.reader) given (W.contents writer.old) (W.contents writer.new) (stop_of result.told) }
+        × TaskWrites import (ended result.ending (R.ending result.reader) given (W.contents writer.old) (W.contents writer.new)) (stop_of result.told) }
     ensures passed { result.passed ≡ None }
     ensures read_fault { result.ending ≡ Ending.ReadFault → R.ending result.reader ≡ InputEnd.Failed }
     ensures fault { W.failed writer.new ≡ is_write_fault result.ending }
@@ -124,14 +114,12 @@ fn perform_replay<R: Source, W: Sink>(
     requires open { R.ending reader ≡ InputEnd.Open }
     requires works { W.failed writer.old ≡ false }
     ensures text { (given : List ℕ) × GivesOctets (R.left reader) (R.left result.reader) given
-        × TaskWrites (replay blocks.items) result.ending (R.ending result.reader) given (W.contents writer.old) (W.contents writer.new) }
-    ensures told { (given : List ℕ) × GivesOctets (R.left reader) (R.left result.reader) given
-        × TaskTells (replay blocks.items) result.ending (R.ending result.reader) given (W.contents writer.old) (W.contents writer.new) (stop_of result.told) }
+        × TaskWrites (replay blocks.items) (ended result.ending (R.ending result.reader) given (W.contents writer.old) (W.contents writer.new)) (stop_of result.told) }
     ensures passed { result.passed ≡ None }
     ensures read_fault { result.ending ≡ Ending.ReadFault → R.ending result.reader ≡ InputEnd.Failed }
     ensures fault { W.failed writer.new ≡ is_write_fault result.ending }
 {
-    of_replay(replay_to_stop(alloc, reader, blocks, heard, writer))
+    of_styled_events(replay_to_stop(alloc, reader, blocks, heard, writer))
 }
 
 #[inline(never)]
@@ -146,9 +134,7 @@ fn perform_watch<R: Source, W: Sink>(
     requires works { W.failed writer.old ≡ false }
     requires period { IsPeriod period }
     ensures text { (given : List ℕ) × GivesOctets (R.left reader) (R.left result.reader) given
-        × TaskWrites (watch period id.now) result.ending (R.ending result.reader) given (W.contents writer.old) (W.contents writer.new) }
-    ensures told { (given : List ℕ) × GivesOctets (R.left reader) (R.left result.reader) given
-        × TaskTells (watch period id.now) result.ending (R.ending result.reader) given (W.contents writer.old) (W.contents writer.new) (stop_of result.told) }
+        × TaskWrites (watch period id.now) (ended result.ending (R.ending result.reader) given (W.contents writer.old) (W.contents writer.new)) (stop_of result.told) }
     ensures passed { result.passed ≡ None }
     ensures read_fault { result.ending ≡ Ending.ReadFault → R.ending result.reader ≡ InputEnd.Failed }
     ensures fault { W.failed writer.new ≡ is_write_fault result.ending }
@@ -169,20 +155,20 @@ fn perform_losses<R: Source, W: Sink>(
     options: Options,
     reader: R,
     period: Option<u32>,
+    unjudged: &mut Unjudged<Global>,
     writer: &mut W,
 ) -> Performed<R>
     requires open { R.ending reader ≡ InputEnd.Open }
     requires works { W.failed writer.old ≡ false }
     requires period { IsPeriodOf period }
     ensures text { (given : List ℕ) × GivesOctets (R.left reader) (R.left result.reader) given
-        × EventsWrite options (losses period) result.ending (R.ending result.reader) given (W.contents writer.old) (W.contents writer.new) }
-    ensures told { (given : List ℕ) × GivesOctets (R.left reader) (R.left result.reader) given
-        × InputTells options.is_capture (style_of options) (made_by options.skips_other) (losses period) result.ending (R.ending result.reader) given (W.contents writer.old) (W.contents writer.new) (stop_of result.told) }
+        × EventsWrite options (losses period) (ended result.ending (R.ending result.reader) given (W.contents writer.old) (W.contents writer.new)) (stop_of result.told) }
     ensures passed { PassesWhere options.skips_other options.is_capture result.ending (R.ending result.reader) (R.left reader) (R.left result.reader) result.passed }
     ensures read_fault { result.ending ≡ Ending.ReadFault → R.ending result.reader ≡ InputEnd.Failed }
     ensures fault { W.failed writer.new ≡ is_write_fault result.ending }
 {
-    over_events(alloc, options, TellsLosses { period }, reader, writer)
+    let task = TellsLosses { period, unjudged };
+    over_events(alloc, options, task, reader, writer)
 }
 
 /// Does what a task asks for: reads the reader, writes the text that is defined for the task, and hands out how that ended,
@@ -190,22 +176,21 @@ fn perform_losses<R: Source, W: Sink>(
 ///
 /// The reader is Open and the writer has not failed. What is written at each ending, and which of them there are, is what
 /// the engine of the task says; the exit status is that of `engine_core::status`. A replay sets the flag of each block that has
-/// had an entry, at its position, if there is one.
+/// had an entry, at its position, if there is one; `losses` notes the streams that it counts alone.
 #[inline(never)]
 pub fn perform<R: Source, W: Sink>(
     alloc: Global,
     task: Task,
     reader: R,
     heard: &mut [bool],
+    unjudged: &mut Unjudged<Global>,
     writer: &mut W,
 ) -> Performed<R>
     requires open { R.ending reader ≡ InputEnd.Open }
     requires works { W.failed writer.old ≡ false }
     requires period { HasPeriod (asked_by task) }
     ensures text { (given : List ℕ) × GivesOctets (R.left reader) (R.left result.reader) given
-        × TaskWrites (asked_by task) result.ending (R.ending result.reader) given (W.contents writer.old) (W.contents writer.new) }
-    ensures told { (given : List ℕ) × GivesOctets (R.left reader) (R.left result.reader) given
-        × TaskTells (asked_by task) result.ending (R.ending result.reader) given (W.contents writer.old) (W.contents writer.new) (stop_of result.told) }
+        × TaskWrites (asked_by task) (ended result.ending (R.ending result.reader) given (W.contents writer.old) (W.contents writer.new)) (stop_of result.told) }
     ensures passed { result.passed ≡ None }
     ensures read_fault { result.ending ≡ Ending.ReadFault → R.ending result.reader ≡ InputEnd.Failed }
     ensures fault { W.failed writer.new ≡ is_write_fault result.ending }
@@ -218,7 +203,9 @@ pub fn perform<R: Source, W: Sink>(
         Task::Replay(blocks) => perform_replay(alloc, reader, blocks, heard, writer),
         Task::Publish => perform_publish(alloc, reader, writer),
         Task::Watch { period, id } => perform_watch(alloc, reader, period, id.as_slice(), writer),
-        Task::Losses { period } => perform_losses(alloc, NO_OPTION, reader, period, writer),
+        Task::Losses { period } => {
+            perform_losses(alloc, NO_OPTION, reader, period, unjudged, writer)
+        }
         Task::Import => perform_import(alloc, reader, writer),
     }
 }
@@ -241,21 +228,20 @@ pub fn perform_request<R: Source, W: Sink>(
     options: Options,
     reader: R,
     heard: &mut [bool],
+    unjudged: &mut Unjudged<Global>,
     writer: &mut W,
 ) -> Performed<R>
     requires open { R.ending reader ≡ InputEnd.Open }
     requires works { W.failed writer.old ≡ false }
     requires period { HasPeriod (asked_by task) }
     ensures text { (given : List ℕ) × GivesOctets (R.left reader) (R.left result.reader) given
-        × RequestWrites options (asked_by task) result.ending (R.ending result.reader) given (W.contents writer.old) (W.contents writer.new) }
-    ensures told { (given : List ℕ) × GivesOctets (R.left reader) (R.left result.reader) given
-        × RequestTells options (asked_by task) result.ending (R.ending result.reader) given (W.contents writer.old) (W.contents writer.new) (stop_of result.told) }
+        × RequestWrites options (asked_by task) (ended result.ending (R.ending result.reader) given (W.contents writer.old) (W.contents writer.new)) (stop_of result.told) }
     ensures passed { RequestPasses options (asked_by task) result.ending (R.ending result.reader) (R.left reader) (R.left result.reader) result.passed }
     ensures read_fault { result.ending ≡ Ending.ReadFault → R.ending result.reader ≡ InputEnd.Failed }
     ensures fault { W.failed writer.new ≡ is_write_fault result.ending }
 {
     if !has_option(options) {
-        return perform(alloc, task, reader, heard, writer);
+        return perform(alloc, task, reader, heard, unjudged, writer);
     }
     match task {
         Task::Show => over_events(alloc, options, Shows, reader, writer),
@@ -274,7 +260,9 @@ pub fn perform_request<R: Source, W: Sink>(
             let id = id.as_slice();
             over_events(alloc, options, Watches { period, id }, reader, writer)
         }
-        Task::Losses { period } => perform_losses(alloc, options, reader, period, writer),
+        Task::Losses { period } => {
+            perform_losses(alloc, options, reader, period, unjudged, writer)
+        }
         Task::Import => perform_import(alloc, reader, writer),
     }
 }

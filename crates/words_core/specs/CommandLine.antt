@@ -1,5 +1,6 @@
 -- The command line of the program: the task of each subcommand, and why words may be refused.
-use Rattle.std.specs.Prelude.{◌≡◌, ◌==◌, ◌⊎◌, ℕ, pos, true, false, not, Bool, List, [], ◌∷◌, ◌++◌, map, filter_map, find, position, Option, Some, None, Result, Ok, Err, MatchResult, is_some, option_and_then, option_map, codes, if◌then◌else◌}
+use Rattle.std.specs.Prelude.{◌≡◌, ◌==◌, ◌⊎◌, ℕ, pos, true, false, not, Bool, List, [], ◌∷◌, ◌++◌, map}
+use Rattle.std.specs.Prelude.{filter_map, find, position, Option, Some, None, Result, Ok, Err, MatchResult, is_some, option_and_then, option_map, codes, if◌then◌else◌}
 use Rattle.std.specs.Global.{Global}
 use Rattle.std.specs.List.{list_any}
 use Rattle.std.specs.Option.{option_map_or}

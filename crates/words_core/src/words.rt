@@ -3,7 +3,8 @@ ghost use Rattle.std.specs.Prelude.{◌≡◌, ◌≢◌, ℕ, true, false, code
 ghost use Rattle.clap.specs.Words.{App, all_of, app_of, found_of, kind_of, new_app, rows_of, rule_of, subcommand_rows_of, takes, with_subcommand};
 ghost use Rattle.clap.specs.Walk.{texts};
 ghost use Rattle.clap.specs.declared.error.kind.ErrorKind.TheVariants.{OutOfMemory};
-ghost use Rattle.words_core.specs.CommandLine.{AnswersBadBlock, AnswersTask, Asked, HasPeriod, IsNoMistake, asked_by, bare_program, block_rule, id_rule, is_plain, losing, losses_asked, name_of, period_rule, readers, replay_of, replaying, stream_period_rule, task_asked, watch, watch_asked, watching};
+ghost use Rattle.words_core.specs.CommandLine.{AnswersBadBlock, AnswersTask, Asked, HasPeriod, IsNoMistake};
+ghost use Rattle.words_core.specs.CommandLine.{asked_by, bare_program, block_rule, id_rule, is_plain, losing, losses_asked, name_of, period_rule, readers, replay_of, replaying, stream_period_rule, task_asked, watch, watch_asked, watching};
 ghost use Rattle.words_core.specs.computed.PrivateCalls.{AnswersWords, MayAnswer};
 ghost use Rattle.words_core.specs.RequestLine.{AnswersRequest, Asks, AsksWith, MayRefuseRequest, RefusesBlock, offered, request_asked, request_faults, request_line, request_of_words, takes_request, task_of_words};
 ghost use Rattle.words_core.specs.computed.OfferedLine.{IsApp, IsExclusion, IsLocal, MayGrant};

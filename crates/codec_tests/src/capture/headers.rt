@@ -3,9 +3,9 @@
 use capture_core::{
     CaptureCause, CaptureFault, CaptureForm, FractionUnit, OctetOrder, read_header,
 };
-use frame_core::{InputEnd, Source};
+use list_core::{InputEnd, Source};
 use std::process::Abort;
-use test_devices::{NEVER, source_of};
+use test_support::{NEVER, source_of};
 
 const LITTLE: &[u8; 24] =
     b"\xd4\xc3\xb2\xa1\x02\x00\x04\x00\x00\x00\x00\x00\x00\x00\x00\x00\xff\xff\x00\x00\x01\x00\x00\x00";

@@ -1,11 +1,10 @@
 //! The packets of a capture, in both forms.
 
 use capture_core::{CaptureCause, CaptureFault, PacketError, PacketReader};
-use frame_core::{Event, EventKind, Source};
+use list_core::{Event, EventKind, Source};
 use std::alloc::{AllocError, Allocator, Global};
 use std::process::Abort;
-use test_devices::{NEVER, source_of};
-use test_support::RefusingAlloc;
+use test_support::{NEVER, RefusingAlloc, source_of};
 
 /// A packet: its number, its moment, and the octets of its frame, none where only time has passed.
 type Told<'a> = (u64, u64, &'a [u8]);
@@ -514,5 +513,116 @@ const KINDS: [Case; 14] = [
 #[test]
 fn blocks_of_each_kind(rt: HostRuntime) {
     let wrong = first_wrong(rt.alloc(), &KINDS);
+    assert!(rt; wrong == None, "{wrong:?}");
+}
+
+/// Captures in which two things are wrong, of which the first is told, and some at the edge of a cause.
+const JUDGED: [Case; 11] = [
+    (
+        "two lengths, and an interface that is not described",
+        &[
+            SECTION,
+            SNAPPED,
+            b"\x06\x00\x00\x00\x24\x00\x00\x00\x01\x00\x00\x00\x00\x00\x00\x00\x6f\x17\x00\x00\x03\x00\x00\x00\x09\x00\x00\x00\xaa\xbb\xcc\x00\x20\x00\x00\x00",
+        ],
+        &[],
+        Some((1, CaptureCause::BlockLength)),
+    ),
+    (
+        "16 octets of a packet, and an interface that is not described",
+        &[
+            SECTION,
+            SNAPPED,
+            b"\x06\x00\x00\x00\x1c\x00\x00\x00\x01\x00\x00\x00\x00\x00\x00\x00\x00\x00\x00\x00\x00\x00\x00\x00\x1c\x00\x00\x00",
+        ],
+        &[],
+        Some((1, CaptureCause::BlockForm)),
+    ),
+    (
+        "262,145 octets, and an interface that is not described",
+        &[
+            SECTION,
+            SNAPPED,
+            b"\x06\x00\x00\x00\x20\x00\x00\x00\x01\x00\x00\x00\x00\x00\x00\x00\x00\x00\x00\x00\x01\x00\x04\x00\x01\x00\x04\x00\x20\x00\x00\x00",
+        ],
+        &[],
+        Some((1, CaptureCause::Interface)),
+    ),
+    (
+        "octets past the end, and a time before 1970",
+        &[
+            SECTION,
+            BEFORE,
+            b"\x06\x00\x00\x00\x24\x00\x00\x00\x00\x00\x00\x00\x00\x00\x00\x00\x6f\x17\x00\x00\x05\x00\x00\x00\x09\x00\x00\x00\xaa\xbb\xcc\xdd\x24\x00\x00\x00",
+        ],
+        &[],
+        Some((1, CaptureCause::BlockForm)),
+    ),
+    (
+        "the last time",
+        &[
+            SECTION,
+            SNAPPED,
+            b"\x06\x00\x00\x00\x24\x00\x00\x00\x00\x00\x00\x00\xb3\xb6\xe0\x0d\xff\xff\x63\xa7\x03\x00\x00\x00\x09\x00\x00\x00\xaa\xbb\xcc\x00\x24\x00\x00\x00",
+        ],
+        &[(1, 999_999_999_999_999_999, b"\xaa\xbb\xcc")],
+        None,
+    ),
+    (
+        "a microsecond more",
+        &[
+            SECTION,
+            SNAPPED,
+            b"\x06\x00\x00\x00\x24\x00\x00\x00\x00\x00\x00\x00\xb3\xb6\xe0\x0d\x00\x00\x64\xa7\x03\x00\x00\x00\x09\x00\x00\x00\xaa\xbb\xcc\x00\x24\x00\x00\x00",
+        ],
+        &[],
+        Some((1, CaptureCause::PacketTime)),
+    ),
+    (
+        "a simple packet and no interface",
+        &[
+            SECTION,
+            b"\x03\x00\x00\x00\x14\x00\x00\x00\x03\x00\x00\x00\x01\x02\x03\x00\x14\x00\x00\x00",
+        ],
+        &[],
+        Some((1, CaptureCause::Interface)),
+    ),
+    (
+        "an offset of four octets",
+        &[
+            SECTION,
+            b"\x01\x00\x00\x00\x1c\x00\x00\x00\x01\x00\x00\x00\x00\x00\x00\x00\x0e\x00\x04\x00\x10\x0e\x00\x00\x1c\x00\x00\x00",
+        ],
+        &[],
+        Some((1, CaptureCause::BlockForm)),
+    ),
+    (
+        "another byte-order magic, and a section header of 24 octets",
+        &[b"\x0a\x0d\x0d\x0a\x18\x00\x00\x00\x01\x02\x03\x04"],
+        &[],
+        Some((0, CaptureCause::CaptureHeader)),
+    ),
+    (
+        "another byte-order magic behind a packet",
+        &[
+            SECTION,
+            NANOSECONDS,
+            PACKET,
+            b"\x0a\x0d\x0d\x0a\x1c\x00\x00\x00\x01\x02\x03\x04",
+        ],
+        &[FIRST],
+        Some((2, CaptureCause::BlockForm)),
+    ),
+    (
+        "four octets of no format",
+        &[b"\xd4\xc3\xb2\xa2"],
+        &[],
+        Some((0, CaptureCause::CaptureHeader)),
+    ),
+];
+
+#[test]
+fn the_first_of_two_faults(rt: HostRuntime) {
+    let wrong = first_wrong(rt.alloc(), &JUDGED);
     assert!(rt; wrong == None, "{wrong:?}");
 }

@@ -4,9 +4,9 @@ use capture_core::{
     CaptureCause, CaptureFault, CaptureForm, Captured, FractionUnit, LONGEST_FRAME, OctetOrder,
     read_record,
 };
-use frame_core::{InputEnd, Source};
+use list_core::{InputEnd, Source};
 use std::process::Abort;
-use test_devices::{NEVER, source_of};
+use test_support::{NEVER, source_of};
 
 const LITTLE: CaptureForm = CaptureForm {
     order: OctetOrder::LittleEndian,

@@ -1,6 +1,6 @@
 //! The adapters hand a reader and a writer all that they are lent, once for each call of theirs.
 
-use frame_core::{FromRead, Sink, Source, ToWrite, put_all};
+use list_core::{FromRead, Sink, Source, ToWrite, put_all};
 use std::io;
 use std::io::{Read, Write};
 

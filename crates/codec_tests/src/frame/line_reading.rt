@@ -1,9 +1,9 @@
 //! Lines, one at a time.
 
-use frame_core::{FromRead, InputEnd, LineReader, ListCause, ListFault, Source};
+use list_core::{FromRead, InputEnd, LineReader, ListCause, ListFault, Source};
 use std::process::Abort;
 use std::test::Fail;
-use test_devices::{FailsOnce, KINDS, NEVER, source_of};
+use test_support::{FailsOnce, KINDS, NEVER, source_of};
 
 /// Whether the next line is this one.
 fn is_next<R: Source>(reader: &mut LineReader<R>, line: &[u8]) -> bool {

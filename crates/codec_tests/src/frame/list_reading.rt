@@ -1,10 +1,10 @@
 //! Events, one at a time.
 
 use crate::frame::sentences::says;
-use frame_core::{Event, FromRead, InputEnd, ListError, ListReader, Source, write_event};
+use list_core::{Event, FromRead, InputEnd, ListError, ListReader, Source, write_event};
 use std::alloc::{Allocator, Global};
 use std::process::Abort;
-use test_devices::{Endless, NEVER, sink_of, source_of};
+use test_support::{Endless, NEVER, sink_of, source_of};
 
 /// Whether the event's line is this one.
 pub fn is_listed_as<A: Allocator>(texts: Global, event: &Event<A>, line: &[u8]) -> bool {

@@ -1,10 +1,10 @@
 //! Events and octets, written.
 
-use frame_core::{Event, EventKind, Sink, ToWrite, WriteFault, put_all, write_event, write_frame};
+use list_core::{Event, EventKind, Sink, ToWrite, WriteFault, put_all, write_event, write_frame};
 use mms_data::Octets;
 use std::alloc::Global;
 use std::process::Abort;
-use test_devices::{FailsOnce, FullDisk, KINDS, NEVER, sink_of};
+use test_support::{FailsOnce, FullDisk, KINDS, NEVER, sink_of};
 
 /// Whether an event at this moment is answered so, and written as these octets.
 fn is_answered(

@@ -1,11 +1,10 @@
 //! Lists where memory is refused, at each growth in turn.
 
 use crate::frame::list_reading::is_next;
-use frame_core::{ListReader, Source};
+use list_core::{ListReader, Source};
 use std::alloc::Global;
 use std::process::Abort;
-use test_devices::{NEVER, source_of};
-use test_support::RefusingAlloc;
+use test_support::{NEVER, RefusingAlloc, source_of};
 
 /// Whether the next answer is this one, in this line, once memory is granted: a refusal comes twice, and leaves the
 /// line's number.

@@ -1,6 +1,7 @@
 //! What the errors say to a person.
 
-use frame_core::{DeviceFault, EncodeFault, ListCause, ListError, ListFault, WriteFault};
+use frame_core::EncodeFault;
+use list_core::{DeviceFault, ListCause, ListError, ListFault, WriteFault};
 use std::alloc::{AllocError, Global};
 use std::fmt::Display;
 use std::process::Abort;

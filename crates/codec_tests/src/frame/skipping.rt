@@ -1,10 +1,10 @@
 //! Frames of other protocols, passed over.
 
 use crate::frame::list_reading::is_listed_as;
-use frame_core::{Event, EventLines, ItemReader, Passed, PassedKind, ReadItems, SkipOther};
+use frame_core::{Passed, PassedKind, SkipOther};
+use list_core::{Event, EventLines, ItemReader, ReadItems};
 use std::alloc::{AllocError, Global};
-use test_devices::{Give, NEVER, source_of};
-use test_support::RefusingAlloc;
+use test_support::{Give, NEVER, RefusingAlloc, source_of};
 
 // A reader of the events of a list.
 type Events<'a> = ItemReader<Give<'a>, EventLines>;

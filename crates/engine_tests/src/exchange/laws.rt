@@ -1,6 +1,6 @@
 //! The laws can be called.
 
-use exchange_laws::laws;
+use goose_cmd::laws;
 use std::alloc::Global;
 
 #[test]

@@ -10,7 +10,8 @@ ghost use Rattle.script_core.specs.declared.script.ScriptLines.TheVariants.{Firs
 ghost use Rattle.engine_core.specs.Ending.{is_write_fault};
 ghost use Rattle.list_core.specs.ItemReader.{item_state};
 ghost use Rattle.engine_core.specs.EngineText.{exactly};
-ghost use Rattle.engine_core.specs.Run.{WritesSome, WritesSomeTo};
+ghost use Rattle.engine_core.specs.Run.{WritesSome, list_input};
+ghost use Rattle.engine_core.specs.RunOver.{Leaves, OfKind};
 ghost use Rattle.exchange_engines.specs.PublishText.{IsPublishText, IsScriptSound, script_cause};
 ghost use Rattle.exchange_engines.specs.computed.PublishStep.{Begins, Holds, Progress, Runs, TakesCall, TakesItem, progress_after, publish_text, setup_cause};
 ghost use Rattle.script_core.specs.Script.{script_rules};
@@ -18,7 +19,7 @@ ghost use Rattle.script_core.specs.Script.{script_rules};
 use crate::texts::script::put_script_fault_line;
 use arrayvec::ArrayVec;
 use engine_core::{Ending, Engine, Stopped, run_to_stop};
-use frame_core::{ItemFault, ItemReader, LineError, Sink, Source};
+use list_core::{ItemFault, ItemReader, LineError, Sink, Source};
 use mms_data::{UtcTime, ValueList};
 use publish_core::{Control, MOST_STEPS, PublishFault, Publisher, Step, Table};
 use script_core::{ScriptCause, ScriptItem, ScriptLines};
@@ -305,7 +306,7 @@ pub fn publish_to_stop<A: Allocator + Copy, R: Source, W: Sink>(
     requires open { R.ending reader ≡ InputEnd.Open }
     requires works { W.failed writer.old ≡ false }
     ensures text { (given : List ℕ) × GivesOctets (R.left reader) (item_state R.left R.ending result.reader).left given
-        × WritesSomeTo (IsPublishText {A = A}) script_rules First result.ending (item_state R.left R.ending result.reader).ending given (W.contents writer.old) (W.contents writer.new) result.fault }
+        × OfKind (IsPublishText {A = A}) (λ t. Leaves (list_input script_rules First) (exactly t) result.ending result.fault (item_state R.left R.ending result.reader).ending given (W.contents writer.old) (W.contents writer.new)) }
     ensures read_fault { result.ending ≡ Ending.ReadFault → (item_state R.left R.ending result.reader).ending ≡ InputEnd.Failed }
     ensures fault { W.failed writer.new ≡ is_write_fault result.ending }
 {

@@ -5,9 +5,10 @@ ghost use Rattle.list_core.specs.declared.device.InputEnd.{InputEnd};
 ghost use Rattle.list_core.specs.Device.{GivesOctets};
 ghost use Rattle.list_core.specs.ItemReader.{item_state};
 ghost use Rattle.engine_core.specs.Ending.{is_write_fault};
-ghost use Rattle.engine_core.specs.EventsText.{line_in};
+ghost use Rattle.engine_core.specs.EventsText.{fault_text, line_in};
+ghost use Rattle.engine_core.specs.Input.{reader_of};
 ghost use Rattle.text_core.specs.Pieces.{AppendsText};
-ghost use Rattle.exchange_engines.specs.ReplayText.{LeavesTwiceIn, ReplayWrites, ReplayWritesTo, ReplaysOver, twice_fault, twice_line, twice_stop};
+ghost use Rattle.exchange_engines.specs.ReplayText.{LeavesTwiceIn, ReplayWrites, ReplayWritesTo, ReplaysOver, twice_line, twice_stop};
 ghost use Rattle.object_core.specs.Objects.{AppendsSome};
 ghost use Rattle.exchange_engines.specs.EntryObject.{twice_object};
 ghost use Rattle.exchange_engines.specs.computed.ReplayAgrees.{replay_agrees};
@@ -16,8 +17,9 @@ ghost use Rattle.exchange_engines.specs.computed.ReplayStep.{IsSaid, kept_after,
 use crate::texts::entry::put_entry_lines;
 use crate::texts::entry_object::{EntryHeading, put_entry_objects, put_twice_object};
 use engine_core::{Ending, EventEngine, OfEvents, Stopped, Style, refuse, run_over, run_to_stop};
-use frame_core::{Event, EventLines, ItemFault, ItemReader, ListCause, Sink, Source};
-use list_core::{InputFault, ReadItems};
+use list_core::{
+    Event, EventLines, InputFault, ItemFault, ItemReader, ListCause, ReadItems, Sink, Source,
+};
 use object_core::{Form, LastObject};
 use std::alloc::{AllocError, Allocator};
 use subscribe_core::{Block, Entry, SubscribeFault, Subscriber};
@@ -168,49 +170,20 @@ pub enum ReplayStop<F> {
     SameBlockTwice(usize),
 }
 
-/// Why a replay ended before its list did.
-#[derive(Drop)]
-pub enum ReplayFault {
-    /// The list has this fault.
-    List(ItemFault<ListCause>),
-    /// The block at this position, from 0, has the APPID and the gocbRef of an earlier one. It is the first such.
-    SameBlockTwice(usize),
-}
-
-// The fault by which a replay ends so that was given a block twice.
-fn fault_of_twice(ending: Ending, position: usize) -> Option<ReplayFault>
-    ensures { result ≡ twice_fault ending position }
+// The reason for which a replay stops that was given a block twice.
+fn stop_of_twice<F>(ending: Ending, position: usize) -> Option<ReplayStop<F>>
+    ensures { result ≡ twice_stop ending position }
 {
     match ending {
-        Ending::InputFault => Some(ReplayFault::SameBlockTwice(position)),
+        Ending::InputFault => Some(ReplayStop::SameBlockTwice(position)),
         _ => None,
     }
 }
 
-// What a replay hands out that read nothing.
-fn unread<R: Source>(
-    ending: Ending,
-    fault: Option<ReplayFault>,
-    reader: R,
-) -> Stopped<ItemReader<R, EventLines>, ReplayFault>
-    ensures ending { result.ending ≡ ending }
-    ensures fault { result.fault ≡ fault }
-    ensures left { (item_state R.left R.ending result.reader).left ≡ R.left reader }
-    ensures source { (item_state R.left R.ending result.reader).ending ≡ R.ending reader }
-{
-    Stopped {
-        ending,
-        fault,
-        reader: ItemReader::new(reader, EventLines::First),
-    }
-}
-
-// What a replay hands out that ran over its list.
-fn replayed<R>(
-    stopped: Stopped<ItemReader<R, EventLines>, ItemFault<ListCause>>,
-) -> Stopped<ItemReader<R, EventLines>, ReplayFault>
+/// What a run hands out that stops by no other reason than its input's fault.
+pub fn of_input<I, F>(stopped: Stopped<I, F>) -> Stopped<I, ReplayStop<F>>
     ensures ending { result.ending ≡ stopped.ending }
-    ensures fault { result.fault ≡ option_map ReplayFault.List stopped.fault }
+    ensures fault { result.fault ≡ option_map ReplayStop.Input stopped.fault }
     ensures reader { result.reader ≡ stopped.reader }
 {
     let Stopped {
@@ -219,9 +192,26 @@ fn replayed<R>(
         reader,
     } = stopped;
     let fault = match fault {
-        Some(fault) => Some(ReplayFault::List(fault)),
+        Some(fault) => Some(ReplayStop::Input(fault)),
         None => None,
     };
+    Stopped {
+        ending,
+        fault,
+        reader,
+    }
+}
+
+// What a replay hands out that read nothing.
+fn unread<I, F>(
+    ending: Ending,
+    fault: Option<ReplayStop<F>>,
+    reader: I,
+) -> Stopped<I, ReplayStop<F>>
+    ensures ending { result.ending ≡ ending }
+    ensures fault { result.fault ≡ fault }
+    ensures reader { result.reader ≡ reader }
+{
     Stopped {
         ending,
         fault,
@@ -265,16 +255,16 @@ pub fn replay_to_stop<A: Allocator + Copy, R: Source, W: Sink>(
     blocks: Vec<Block<A>, A>,
     heard: &mut [bool],
     writer: &mut W,
-) -> Stopped<ItemReader<R, EventLines>, ReplayFault>
+) -> Stopped<ItemReader<R, EventLines>, ReplayStop<ItemFault<ListCause>>>
     requires open { R.ending reader ≡ InputEnd.Open }
     requires works { W.failed writer.old ≡ false }
     ensures text { (given : List ℕ) × GivesOctets (R.left reader) (item_state R.left R.ending result.reader).left given
-        × ReplayWritesTo blocks.items result.ending (item_state R.left R.ending result.reader).ending given (W.contents writer.old) (W.contents writer.new) result.fault }
+        × ReplayWritesTo blocks.items result.ending result.fault (item_state R.left R.ending result.reader).ending given (W.contents writer.old) (W.contents writer.new) }
     ensures read_fault { result.ending ≡ Ending.ReadFault → (item_state R.left R.ending result.reader).ending ≡ InputEnd.Failed }
     ensures fault { W.failed writer.new ≡ is_write_fault result.ending }
 {
     match Subscriber::of_blocks(alloc, blocks) {
-        Ok(subscriber) => replayed(run_to_stop(
+        Ok(subscriber) => of_input(run_to_stop(
             alloc,
             EventLines::First,
             OfEvents {
@@ -295,59 +285,14 @@ pub fn replay_to_stop<A: Allocator + Copy, R: Source, W: Sink>(
                 let style = Style::Lines(Form::Text);
                 let blocks = blocks.as_slice();
                 let (ending, reader) = refuse_twice(alloc, style, blocks, position, reader, writer);
-                unread(ending, fault_of_twice(ending, position), reader)
+                let events = ItemReader::new(reader, EventLines::First);
+                unread(ending, stop_of_twice(ending, position), events)
             }
-            SubscribeFault::Memory(_) => unread(Ending::Memory, None, reader),
+            SubscribeFault::Memory(_) => {
+                let events = ItemReader::new(reader, EventLines::First);
+                unread(Ending::Memory, None, events)
+            }
         },
-    }
-}
-
-// The reason for which a replay stops that was given a block twice.
-fn stop_of_twice<F>(ending: Ending, position: usize) -> Option<ReplayStop<F>>
-    ensures { result ≡ twice_stop ending position }
-{
-    match ending {
-        Ending::InputFault => Some(ReplayStop::SameBlockTwice(position)),
-        _ => None,
-    }
-}
-
-/// What a run hands out that stops by no other reason than its input's fault.
-pub fn of_input<I, F>(stopped: Stopped<I, F>) -> Stopped<I, ReplayStop<F>>
-    ensures ending { result.ending ≡ stopped.ending }
-    ensures fault { result.fault ≡ option_map ReplayStop.Input stopped.fault }
-    ensures reader { result.reader ≡ stopped.reader }
-{
-    let Stopped {
-        ending,
-        fault,
-        reader,
-    } = stopped;
-    let fault = match fault {
-        Some(fault) => Some(ReplayStop::Input(fault)),
-        None => None,
-    };
-    Stopped {
-        ending,
-        fault,
-        reader,
-    }
-}
-
-// What a replay hands out that read nothing.
-fn unread_over<I, F>(
-    ending: Ending,
-    fault: Option<ReplayStop<F>>,
-    reader: I,
-) -> Stopped<I, ReplayStop<F>>
-    ensures ending { result.ending ≡ ending }
-    ensures fault { result.fault ≡ fault }
-    ensures reader { result.reader ≡ reader }
-{
-    Stopped {
-        ending,
-        fault,
-        reader,
     }
 }
 
@@ -366,7 +311,7 @@ pub fn replay_over<
     writer: &mut W,
 ) -> Stopped<I, ReplayStop<F>>
     requires works { W.failed writer.old ≡ false }
-    ensures text { ReplaysOver style blocks.items I.answers F.refused F.failed F.last_line F.last_object events result.ending result.fault result.reader (W.contents writer.old) (W.contents writer.new) }
+    ensures text { ReplaysOver style blocks.items (reader_of I.answers I.number F.refused F.failed) (fault_text F.last_line F.last_object) events result (W.contents writer.old) (W.contents writer.new) }
     ensures fault { W.failed writer.new ≡ is_write_fault result.ending }
 {
     match Subscriber::of_blocks(alloc, blocks) {
@@ -387,9 +332,9 @@ pub fn replay_over<
             SubscribeFault::SameBlockTwice(position) => {
                 let blocks = blocks.as_slice();
                 let (ending, events) = refuse_twice(alloc, style, blocks, position, events, writer);
-                unread_over(ending, stop_of_twice(ending, position), events)
+                unread(ending, stop_of_twice(ending, position), events)
             }
-            SubscribeFault::Memory(_) => unread_over(Ending::Memory, None, events),
+            SubscribeFault::Memory(_) => unread(Ending::Memory, None, events),
         },
     }
 }

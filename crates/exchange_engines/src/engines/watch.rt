@@ -10,8 +10,11 @@ ghost use Rattle.subscribe_core.specs.computed.WatchAnswers.{seen_all};
 ghost use Rattle.engine_core.specs.Ending.{is_write_fault};
 ghost use Rattle.list_core.specs.ItemReader.{item_state};
 ghost use Rattle.engine_core.proofs.EventSteps.{exactly_agrees};
-ghost use Rattle.engine_core.specs.EventsText.{RunsSome, exactly_each, exactly_event};
-ghost use Rattle.engine_core.specs.Run.{WritesSome, WritesSomeTo};
+ghost use Rattle.engine_core.specs.EngineText.{exactly};
+ghost use Rattle.engine_core.specs.EventsText.{exactly_each, exactly_event, fault_text, over_in};
+ghost use Rattle.engine_core.specs.Input.{reader_of};
+ghost use Rattle.engine_core.specs.Run.{WritesSome, list_input};
+ghost use Rattle.engine_core.specs.RunOver.{Leaves, OfKind, RunsOver};
 ghost use Rattle.text_core.specs.Pieces.{AppendsText};
 ghost use Rattle.exchange_engines.specs.WatchText.{AreWatchTexts, IsWatchText, counts, counts_of, is_unexpected as unexpected, sample_at, samples_from, samples_of, watched};
 ghost use Rattle.exchange_engines.specs.computed.WatchStep.{SamplesAppended, last_of, telling_at, watch_event};
@@ -20,11 +23,11 @@ use crate::texts::sample::put_sample_line;
 use crate::texts::sample_object::put_sample_object;
 use ber_core::Fault;
 use engine_core::{Ending, EventEngine, OfEvents, Stopped, Style, run_over, run_to_stop};
-use frame_core::{
-    ApduView, Event, EventKind, EventLines, ItemFault, ItemReader, ListCause, Sink, Source,
-    view_frame,
+use frame_core::{ApduView, view_frame};
+use list_core::{
+    Event, EventKind, EventLines, InputFault, ItemFault, ItemReader, ListCause, ReadItems, Sink,
+    Source,
 };
-use list_core::{InputFault, ReadItems};
 use object_core::event::put_fault_object;
 use object_core::{Form, Heading, LastObject};
 use pdu_core::{AsduView, SvView};
@@ -242,7 +245,7 @@ pub fn watch_to_stop<A: Allocator + Copy, R: Source, W: Sink>(
     requires works { W.failed writer.old ≡ false }
     requires period { IsPeriod period }
     ensures text { (given : List ℕ) × GivesOctets (R.left reader) (item_state R.left R.ending result.reader).left given
-        × WritesSomeTo (IsWatchText {A = A} period id.now) event_rules First result.ending (item_state R.left R.ending result.reader).ending given (W.contents writer.old) (W.contents writer.new) result.fault }
+        × OfKind (IsWatchText {A = A} period id.now) (λ t. Leaves (list_input event_rules First) (exactly t) result.ending result.fault (item_state R.left R.ending result.reader).ending given (W.contents writer.old) (W.contents writer.new)) }
     ensures read_fault { result.ending ≡ Ending.ReadFault → (item_state R.left R.ending result.reader).ending ≡ InputEnd.Failed }
     ensures fault { W.failed writer.new ≡ is_write_fault result.ending }
 {
@@ -274,7 +277,7 @@ pub fn watch_over<
 >(alloc: A, style: Style, events: I, period: u32, id: &[u8], writer: &mut W) -> Stopped<I, F>
     requires works { W.failed writer.old ≡ false }
     requires period { IsPeriod period }
-    ensures text { RunsSome style (AreWatchTexts {A = A} period id.now) exactly_each I.answers F.refused F.failed F.last_line F.last_object events result.ending result.fault result.reader (W.contents writer.old) (W.contents writer.new) }
+    ensures text { OfKind (AreWatchTexts {A = A} period id.now) (λ texts. RunsOver (reader_of I.answers I.number F.refused F.failed) (over_in style (exactly_each texts) (fault_text F.last_line F.last_object)) events result (W.contents writer.old) (W.contents writer.new)) }
     ensures fault { W.failed writer.new ≡ is_write_fault result.ending }
 {
     match Watch::new(period) {

@@ -5,7 +5,7 @@ ghost use Rattle.text_core.specs.Pieces.{AppendsText};
 ghost use Rattle.exchange_engines.specs.ScriptFaultLine.{cause_detail, script_fault_line};
 
 use crate::texts::names::script_cause_name;
-use frame_core::ItemFault;
+use list_core::ItemFault;
 use script_core::ScriptCause;
 use std::alloc::{AllocError, Allocator};
 use text_core::names::{cause_name, list_cause_name};

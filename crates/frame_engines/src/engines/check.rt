@@ -15,20 +15,22 @@ ghost use Rattle.frame_engines.specs.computed.InForm.{frame_notes_in, note_end, 
 ghost use Rattle.engine_core.specs.Ending.{is_write_fault};
 ghost use Rattle.list_core.specs.ItemReader.{item_state};
 ghost use Rattle.engine_core.proofs.EventSteps.{exactly_agrees};
-ghost use Rattle.engine_core.specs.EventsText.{exactly_event, over_in};
-ghost use Rattle.engine_core.specs.Run.{Writes, WritesTo};
-ghost use Rattle.engine_core.specs.RunOver.{RunsOver};
+ghost use Rattle.engine_core.specs.EventsText.{exactly_event, fault_text, over_in};
+ghost use Rattle.engine_core.specs.Run.{Writes, list_input};
+ghost use Rattle.engine_core.specs.EngineText.{exactly};
+ghost use Rattle.engine_core.specs.Input.{reader_of};
+ghost use Rattle.engine_core.specs.RunOver.{Leaves, RunsOver};
 ghost use Rattle.frame_engines.specs.WrittenForm.{fitting_form};
 
 use arrayvec::ArrayVec;
 use ber_core::Fault;
 use byteorder::{BigEndian, ByteOrder};
 use engine_core::{Ending, EventEngine, OfEvents, Stopped, Style, run_over, run_to_stop};
-use frame_core::{
-    ApduView, Event, EventKind, EventLines, FrameView, ItemFault, ItemReader, ListCause, Sink,
-    Source, encode_view, see_frame, written_length,
+use frame_core::{ApduView, FrameView, encode_view, see_frame, written_length};
+use list_core::{
+    Event, EventKind, EventLines, InputFault, ItemFault, ItemReader, ListCause, ReadItems, Sink,
+    Source,
 };
-use list_core::{InputFault, ReadItems};
 use object_core::event::{put_event_object, put_fault_object};
 use object_core::{Form, LastObject};
 use std::alloc::{AllocError, Allocator};
@@ -303,7 +305,7 @@ pub fn check_to_stop<A: Allocator + Copy, R: Source, W: Sink>(
     requires open { R.ending reader ≡ InputEnd.Open }
     requires works { W.failed writer.old ≡ false }
     ensures text { (given : List ℕ) × GivesOctets (R.left reader) (item_state R.left R.ending result.reader).left given
-        × WritesTo event_rules First (check_text {A = A}) result.ending (item_state R.left R.ending result.reader).ending given (W.contents writer.old) (W.contents writer.new) result.fault }
+        × Leaves (list_input event_rules First) (exactly (check_text {A = A})) result.ending result.fault (item_state R.left R.ending result.reader).ending given (W.contents writer.old) (W.contents writer.new) }
     ensures read_fault { result.ending ≡ Ending.ReadFault → (item_state R.left R.ending result.reader).ending ≡ InputEnd.Failed }
     ensures fault { W.failed writer.new ≡ is_write_fault result.ending }
 {
@@ -324,7 +326,7 @@ pub fn check_over<
     W: Sink,
 >(alloc: A, style: Style, events: I, writer: &mut W) -> Stopped<I, F>
     requires works { W.failed writer.old ≡ false }
-    ensures text { RunsOver I.answers F.refused F.failed (over_in style (λ form. exactly_event (check_event_in {A = A} form)) F.last_line F.last_object) events result.ending result.fault result.reader (W.contents writer.old) (W.contents writer.new) }
+    ensures text { RunsOver (reader_of I.answers I.number F.refused F.failed) (over_in style (λ form. exactly_event (check_event_in {A = A} form)) (fault_text F.last_line F.last_object)) events result (W.contents writer.old) (W.contents writer.new) }
     ensures fault { W.failed writer.new ≡ is_write_fault result.ending }
 {
     let engine = OfEvents {

@@ -13,7 +13,7 @@ ghost use Rattle.frame_engines.specs.ImportText.{Imports, ImportsTo, capture_fau
 
 use capture_core::{CaptureFault, CaptureForm, Captured, LONGEST_FRAME, read_header, read_record};
 use engine_core::{Ending, Halt, Next, Stopped, ended_by, ending_where};
-use frame_core::{FrameLines, Sink, Source, put_all};
+use list_core::{FrameLines, Sink, Source, put_all};
 use std::alloc::Allocator;
 use text_core::names::capture_cause_name;
 use text_core::short::ShortText;

@@ -14,16 +14,18 @@ ghost use Rattle.list_core.specs.declared.event_lines.EventLines.TheVariants.{Fi
 ghost use Rattle.engine_core.specs.Ending.{is_write_fault};
 ghost use Rattle.list_core.specs.ItemReader.{item_state};
 ghost use Rattle.engine_core.specs.EngineText.{exactly};
-ghost use Rattle.engine_core.specs.Run.{Writes, WritesTo};
+ghost use Rattle.engine_core.specs.Run.{Writes, list_input};
+ghost use Rattle.engine_core.specs.RunOver.{Leaves};
 ghost use Rattle.text_core.specs.Pieces.{AppendsText};
 ghost use Rattle.frame_engines.specs.RewriteText.{form_or, is_kept, rewritten, rewrite_text};
 ghost use Rattle.frame_engines.specs.WrittenForm.{written_form};
 
 use arrayvec::ArrayVec;
 use engine_core::{Ending, Engine, Stopped, run_to_stop};
-use frame_core::{
-    Event, EventKind, EventLines, FrameView, ItemFault, ItemReader, LineError, ListCause, Sink,
-    Source, encode_view, fault_of_list, see_frame,
+use frame_core::{FrameView, encode_view, see_frame};
+use list_core::{
+    Event, EventKind, EventLines, ItemFault, ItemReader, LineError, ListCause, Sink, Source,
+    fault_of_list,
 };
 use std::alloc::{AllocError, Allocator};
 use text_core::event::put_frame_event;
@@ -207,7 +209,7 @@ pub fn rewrite_to_stop<A: Allocator + Copy, R: Source, W: Sink>(
     requires open { R.ending reader ≡ InputEnd.Open }
     requires works { W.failed writer.old ≡ false }
     ensures text { (given : List ℕ) × GivesOctets (R.left reader) (item_state R.left R.ending result.reader).left given
-        × WritesTo event_rules First (rewrite_text {A = A}) result.ending (item_state R.left R.ending result.reader).ending given (W.contents writer.old) (W.contents writer.new) result.fault }
+        × Leaves (list_input event_rules First) (exactly (rewrite_text {A = A})) result.ending result.fault (item_state R.left R.ending result.reader).ending given (W.contents writer.old) (W.contents writer.new) }
     ensures read_fault { result.ending ≡ Ending.ReadFault → (item_state R.left R.ending result.reader).ending ≡ InputEnd.Failed }
     ensures fault { W.failed writer.new ≡ is_write_fault result.ending }
 {

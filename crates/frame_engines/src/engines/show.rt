@@ -9,9 +9,11 @@ ghost use Rattle.list_core.specs.declared.device.InputEnd.{InputEnd};
 ghost use Rattle.list_core.specs.Device.{GivesOctets};
 ghost use Rattle.engine_core.specs.Ending.{is_write_fault};
 ghost use Rattle.list_core.specs.ItemReader.{item_state};
-ghost use Rattle.engine_core.specs.EventsText.{exactly_event, over_in};
-ghost use Rattle.engine_core.specs.Run.{Writes, WritesTo};
-ghost use Rattle.engine_core.specs.RunOver.{RunsOver};
+ghost use Rattle.engine_core.specs.EventsText.{exactly_event, fault_text, over_in};
+ghost use Rattle.engine_core.specs.Run.{Writes, list_input};
+ghost use Rattle.engine_core.specs.EngineText.{exactly};
+ghost use Rattle.engine_core.specs.Input.{reader_of};
+ghost use Rattle.engine_core.specs.RunOver.{Leaves, RunsOver};
 ghost use Rattle.text_core.specs.Pieces.{AppendsText};
 ghost use Rattle.frame_core.specs.computed.FrameReading.{frame_at};
 ghost use Rattle.object_core.specs.Objects.{AppendsSome};
@@ -24,10 +26,11 @@ use crate::texts::frame::put_frame_line;
 use crate::texts::frame_object::put_frame_object;
 use ber_core::Fault;
 use engine_core::{Ending, EventEngine, OfEvents, Stopped, Style, run_over, run_to_stop};
-use frame_core::{
-    Event, EventKind, EventLines, ItemFault, ItemReader, ListCause, Sink, Source, view_frame,
+use frame_core::view_frame;
+use list_core::{
+    Event, EventKind, EventLines, InputFault, ItemFault, ItemReader, ListCause, ReadItems, Sink,
+    Source,
 };
-use list_core::{InputFault, ReadItems};
 use object_core::event::{put_event_head, put_event_object, put_fault_object};
 use object_core::fields::put_field_word;
 use object_core::{Counted, Form, LastObject};
@@ -240,7 +243,7 @@ pub fn show_to_stop<A: Allocator + Copy, R: Source, W: Sink>(
     requires open { R.ending reader ≡ InputEnd.Open }
     requires works { W.failed writer.old ≡ false }
     ensures text { (given : List ℕ) × GivesOctets (R.left reader) (item_state R.left R.ending result.reader).left given
-        × WritesTo event_rules First (show_text {A = A}) result.ending (item_state R.left R.ending result.reader).ending given (W.contents writer.old) (W.contents writer.new) result.fault }
+        × Leaves (list_input event_rules First) (exactly (show_text {A = A})) result.ending result.fault (item_state R.left R.ending result.reader).ending given (W.contents writer.old) (W.contents writer.new) }
     ensures read_fault { result.ending ≡ Ending.ReadFault → (item_state R.left R.ending result.reader).ending ≡ InputEnd.Failed }
     ensures fault { W.failed writer.new ≡ is_write_fault result.ending }
 {
@@ -261,7 +264,7 @@ pub fn show_over<
     W: Sink,
 >(alloc: A, style: Style, events: I, writer: &mut W) -> Stopped<I, F>
     requires works { W.failed writer.old ≡ false }
-    ensures text { RunsOver I.answers F.refused F.failed (over_in style (show_allows {A = A}) F.last_line F.last_object) events result.ending result.fault result.reader (W.contents writer.old) (W.contents writer.new) }
+    ensures text { RunsOver (reader_of I.answers I.number F.refused F.failed) (over_in style (show_allows {A = A}) (fault_text F.last_line F.last_object)) events result (W.contents writer.old) (W.contents writer.new) }
     ensures fault { W.failed writer.new ≡ is_write_fault result.ending }
 {
     let engine = OfEvents {

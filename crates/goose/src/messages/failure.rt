@@ -16,6 +16,16 @@ pub enum Failure {
     Write(io::Error),
 }
 
+impl Failure {
+    /// Whether nobody reads standard output any more, as behind `| head`.
+    pub fn is_reader_gone(&self) -> bool {
+        match self {
+            Failure::Read(_) => false,
+            Failure::Write(error) => error.kind() == io::ErrorKind::BrokenPipe,
+        }
+    }
+}
+
 // Writes what the system says of an error, without its number.
 fn write_reason<W: fmt::Write>(f: &mut fmt::Formatter<W>, error: &io::Error) -> fmt::Result {
     let mut said = ArrayString::<LONGEST_REASON>::new();

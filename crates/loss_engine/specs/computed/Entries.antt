@@ -21,7 +21,7 @@ entry_key e = key_by e.app_id e.origin e.name
 abbrev pub progress_of : Held → Progress
 progress_of (held.Frames t) = frames t
 progress_of (held.Samples t z) = samples t z
-progress_of (held.Counted n) = counted n
+progress_of (held.Counted n z) = counted n z
 
 -- an entry as one that is tracked
 abbrev pub tracked_by : {A : Type 0} → Entry A → Tracked

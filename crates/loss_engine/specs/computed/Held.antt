@@ -5,7 +5,7 @@ use Rattle.loss_engine.specs.computed.Tracking.{Kept}
 
 -- what is kept
 abbrev pub kept_by : {A : Type 0} → Losses A → Kept
-kept_by l = record { moment = l.greatest; tracked = l.roll }
+kept_by l = record { moment = l.greatest; is_back = l.is_back; tracked = l.roll }
 
 -- how many samples a second streams have, where that is given
 abbrev pub period_by : {A : Type 0} → Losses A → Option ℕ

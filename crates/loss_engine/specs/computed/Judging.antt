@@ -52,7 +52,7 @@ ToldNext number old e (Err (Some f)) new = ⊥
 ToldNext number old e (Err None) new = WantsNext old (number (events_of new), e)
 
 -- the next event came, and what it tells is answered
-pub record TellsNext {I A F : Type 0} (answers : I → AnswerOf (Event A) F → I → Type 0) (old : Losing I A) (answer : AnswerOf ItemText F) (new : Losing I A) : Type 0 where
+pub record TellsEventNext {I A F : Type 0} (answers : I → AnswerOf (Event A) F → I → Type 0) (old : Losing I A) (answer : AnswerOf ItemText F) (new : Losing I A) : Type 0 where
   pub event : ℕ × Event A
   pub reads : answers (events_of old) (Ok (Some event)) (events_of new)
   pub told : answer ≡ Ok (Some (event.0, piece_by (period_of old) old.style (kept_of old) event))
@@ -90,7 +90,7 @@ pub record GoesOnClosing {I A F : Type 0} (number : I → ℕ) (at : ℕ) (old :
 
 -- by what comes next: an event, or a line at the end
 abbrev pub JudgesBy : {I A F : Type 0} → (I → AnswerOf (Event A) F → I → Type 0) → (I → ℕ) → Option ℕ → Losing I A → AnswerOf ItemText F → Losing I A → Type 0
-JudgesBy answers number None old answer new = TellsNext answers old answer new ⊎ LacksNext answers old answer new ⊎ FailsNext answers old answer new ⊎ EndsEvents answers number old answer new
+JudgesBy answers number None old answer new = TellsEventNext answers old answer new ⊎ LacksNext answers old answer new ⊎ FailsNext answers old answer new ⊎ EndsEvents answers number old answer new
 JudgesBy answers number (Some at) old answer new = GoesOnClosing number at old answer new
 
 -- what a reader answers that judges the events of another

@@ -1,5 +1,5 @@
 -- What is kept of senders and streams, sight by sight, and what each sight tells by it.
-use Rattle.std.specs.Prelude.{◌≡◌, ℕ, ◌+◌, nat_le, max, Bool, false, not, is_some, List, [], ◌∷◌, ◌++◌, map, Option, Some, None, if◌then◌else◌}
+use Rattle.std.specs.Prelude.{◌≡◌, ℕ, ◌+◌, ◌-◌, ◌||◌, nat_le, max, Bool, true, false, not, is_some, List, [], ◌∷◌, ◌++◌, map, Option, Some, None, if◌then◌else◌}
 use Rattle.std.specs.List.{list_any}
 use Rattle.list_core.specs.declared.event.Event.{Event}
 use Rattle.list_core.specs.Items.{Numbered}
@@ -19,17 +19,18 @@ use Rattle.loss_core.specs.computed.SenderTotalSteps.{first_tally, tally_after}
 use Rattle.loss_core.specs.computed.StreamSteps.{came_after}
 use Rattle.loss_core.specs.computed.StreamTotalSteps.{StreamTallyState, fresh_tally, stream_tally_after}
 use Rattle.loss_core.specs.declared.finding.Finding.{Finding}
-use Rattle.loss_core.specs.Findings.{came_told, frame_findings, has_loss, synch_told}
+use Rattle.loss_core.specs.Findings.{count_told, frame_findings, has_loss, synch_told}
 use Rattle.loss_engine.specs.LossLine.{samples_line, sender_total_line, stream_total_line}
 use Rattle.loss_engine.specs.LossObject.{samples_object, sender_total_object, stream_total_object}
-use Rattle.loss_engine.specs.LossText.{closing_in, end_silent, form_of, line_of, sight_lines, styled, with_end}
+use Rattle.loss_engine.specs.LossText.{back_lines, closing_in, end_silent, form_of, line_of, sight_lines, styled, with_end}
 use Rattle.loss_engine.specs.Sights.{Key, Shown, Sight, frame, sample, same_key, sights_of}
+use Rattle.loss_engine.specs.TimeBack.{is_far_below}
 
--- what is kept of a sender or a stream: the tally of its frames; that of its samples and the last smpSynch; or, where no period is given, how many samples came
+-- what is kept of a sender or a stream: the tally of its frames; that of its samples and the last smpSynch; or, where no period is given, how many samples came and the last smpSynch
 pub data Progress : Type 0 where
   frames : SenderTally → Progress
   samples : StreamTallyState → ℕ → Progress
-  counted : ℕ → Progress
+  counted : ℕ → ℕ → Progress
 
 -- one that is tracked
 pub record Tracked : Type 0 where
@@ -38,7 +39,7 @@ pub record Tracked : Type 0 where
 
 -- what is kept of a stream at its first sample
 abbrev pub first_samples : Option ℕ → Sample → ℕ → Progress
-first_samples None s synch = counted 1
+first_samples None s synch = counted 1 synch
 first_samples (Some period) s synch = samples (stream_tally_after (fresh_tally period) s) synch
 
 -- what is kept of a key at its first sight
@@ -50,13 +51,13 @@ first_progress period moment (sample count synch) = first_samples period (record
 abbrev pub more_frames : Arrival → Progress → Progress
 more_frames a (frames t) = frames (tally_after t a)
 more_frames a (samples u z) = samples u z
-more_frames a (counted n) = counted n
+more_frames a (counted n z) = counted n z
 
 -- after one sample more, with this smpSynch
 abbrev pub more_samples : Sample → ℕ → Progress → Progress
 more_samples s synch (frames t) = frames t
 more_samples s synch (samples u z) = samples (stream_tally_after u s) synch
-more_samples s synch (counted n) = counted (kept (n + 1))
+more_samples s synch (counted n z) = counted (kept (n + 1)) synch
 
 -- after one sight more
 abbrev pub more_progress : ℕ → Shown → Progress → Progress
@@ -87,40 +88,42 @@ abbrev pub sender_of : Option Progress → Option Sender
 sender_of None = None
 sender_of (Some (frames t)) = Some t.sender
 sender_of (Some (samples u z)) = None
-sender_of (Some (counted n)) = None
+sender_of (Some (counted n z)) = None
 
 -- what a sample tells by what is known
 abbrev pub came_by : ℕ → Option Progress → Sample → Came
 came_by period None s = came_after period None s
 came_by period (Some (frames t)) s = came_after period None s
 came_by period (Some (samples u z)) s = came_after u.stream.period u.stream.newest s
-came_by period (Some (counted n)) s = came_after period None s
+came_by period (Some (counted n z)) s = came_after period None s
+
+-- what a sample's count tells by what is known, where a period is given
+abbrev pub came_in : Option ℕ → Option Progress → Sample → Option Came
+came_in None known s = None
+came_in (Some period) known s = Some (came_by period known s)
 
 -- the last smpSynch that is known
 abbrev pub synch_of : Option Progress → Option ℕ
 synch_of None = None
 synch_of (Some (frames t)) = None
 synch_of (Some (samples u z)) = Some z
-synch_of (Some (counted n)) = None
+synch_of (Some (counted n z)) = Some z
 
--- what is answered of a sample by what is kept of its stream: what it tells, and the smpSynch before
-abbrev pub TellsSample : Progress → Sample → Option (Came × ℕ) → Type 0
-TellsSample (frames t) s answer = answer ≡ None
-TellsSample (samples u z) s answer = answer ≡ Some (came_after u.stream.period u.stream.newest s, z)
-TellsSample (counted n) s answer = answer ≡ None
+-- what is answered of a sample by what is kept of its stream: what its count tells, where that is judged, and the smpSynch before
+abbrev pub TellsSample : Progress → Sample → Option Came × Option ℕ → Type 0
+TellsSample (frames t) s answer = answer ≡ (None, None)
+TellsSample (samples u z) s answer = answer ≡ (Some (came_after u.stream.period u.stream.newest s), Some z)
+TellsSample (counted n z) s answer = answer ≡ (None, Some z)
 
--- what is answered of a sample by what is known of its stream: nothing, where no period is given
-abbrev pub CountsAs : Option ℕ → Option Progress → Sample → Option (Came × Option ℕ) → Type 0
-CountsAs None known s answer = answer ≡ None
-CountsAs (Some period) known s answer = answer ≡ Some (came_by period known s, synch_of known)
+-- what is answered of a sample by what is known of its stream: what its count tells, where a period is given, and the smpSynch before
+abbrev pub CountsAs : Option ℕ → Option Progress → Sample → Option Came × Option ℕ → Type 0
+CountsAs period known s answer = answer ≡ (came_in period known s, synch_of known)
 
 -- what a sight tells by what is kept of its key
 abbrev pub findings_by : Option ℕ → Option Progress → ℕ → Shown → List Finding
 findings_by period known moment (frame p lifetime) =
     frame_findings (record { pair = p; moment = moment; lifetime = lifetime }) (told_after (sender_of known) (record { pair = p; moment = moment; lifetime = lifetime }))
-findings_by None known moment (sample count synch) = []
-findings_by (Some period) known moment (sample count synch) =
-    came_told period count (came_by period known (record { count = count; moment = moment })) ++ synch_told (synch_of known) synch
+findings_by period known moment (sample count synch) = count_told period count (came_in period known (record { count = count; moment = moment })) ++ synch_told (synch_of known) synch
 
 -- what several sights tell, each by what is tracked before it
 abbrev pub findings_all : Option ℕ → List Tracked → List Sight → List (List Finding)
@@ -129,14 +132,29 @@ findings_all period xs (s ∷ seen) = findings_by period (known_of xs s.key) s.m
 
 -- ---- events
 
--- what is kept of events: the greatest moment, and what is tracked
+-- what is kept of events: the greatest moment, whether the last of them was far back, and what is tracked
 pub record Kept : Type 0 where
   pub moment : ℕ
+  pub is_back : Bool
   pub tracked : List Tracked
 
 -- before any event
 abbrev pub kept_none : Kept
-kept_none = record { moment = 0; tracked = [] }
+kept_none = record { moment = 0; is_back = false; tracked = [] }
+
+-- by how much time goes back at an event, which is far back or not, by whether the one before was
+abbrev pub back_where : Bool → Bool → ℕ → Option ℕ
+back_where false was by = None
+back_where true true by = None
+back_where true false by = Some by
+
+-- by how much time goes back, where it does, with an event of this moment
+abbrev pub back_by : Kept → ℕ → Option ℕ
+back_by k moment = back_where (is_far_below k.moment moment) k.is_back (k.moment - moment)
+
+-- what is kept when a moment came, before what its event shows
+abbrev pub passed : Kept → ℕ → Kept
+passed k moment = record { moment = max k.moment moment; is_back = is_far_below k.moment moment; tracked = k.tracked }
 
 -- what an event shows
 abbrev pub sights_by : {A : Type 0} → Kept → Event A → List Sight
@@ -144,13 +162,13 @@ sights_by k e = sights_of (max k.moment e.moment) e.kind
 
 -- what is kept after it
 abbrev pub keep : {A : Type 0} → Option ℕ → Kept → Event A → Kept
-keep period k e = record { moment = max k.moment e.moment; tracked = track_all period k.tracked (sights_by k e) }
+keep period k e = record { moment = max k.moment e.moment; is_back = is_far_below k.moment e.moment; tracked = track_all period k.tracked (sights_by k e) }
 
 -- the piece that is written of it
 abbrev pub piece_by : {A : Type 0} → Option ℕ → Style → Kept → ℕ × Event A → ItemText
 piece_by period style k e = record {
-  text = styled style e.1.moment (λ form. sight_lines form e.0 e.1.moment (sights_by k e.1) (findings_all period k.tracked (sights_by k e.1)));
-  is_finding = list_any has_loss (findings_all period k.tracked (sights_by k e.1));
+  text = styled style e.1.moment (λ form. back_lines form e.0 e.1.moment (back_by k e.1.moment) ++ sight_lines form e.0 e.1.moment (sights_by k e.1) (findings_all period k.tracked (sights_by k e.1)));
+  is_finding = is_some (back_by k e.1.moment) || list_any has_loss (findings_all period k.tracked (sights_by k e.1));
 }
 
 -- what is kept after several
@@ -174,13 +192,13 @@ stale_newest (Some n) end = if nat_le (n.moment + 1000000) end then Some n.momen
 abbrev pub silent_since : ℕ → Progress → Option ℕ
 silent_since end (frames t) = over_at t.sender.deadline end
 silent_since end (samples u z) = stale_newest u.stream.newest end
-silent_since end (counted n) = None
+silent_since end (counted n z) = None
 
 -- the total of one
 abbrev pub total_by : Form → ℕ → Key → Progress → ItemText
 total_by form end key (frames t) = line_of form false (sender_total_line key (with_end (over_at t.sender.deadline end) t.totals)) (sender_total_object key (with_end (over_at t.sender.deadline end) t.totals))
 total_by form end key (samples u z) = line_of form false (stream_total_line key u.totals) (stream_total_object key u.totals)
-total_by form end key (counted n) = line_of form false (samples_line key n) (samples_object key n)
+total_by form end key (counted n z) = line_of form false (samples_line key n) (samples_object key n)
 
 -- what has not come back, of each
 abbrev pub silences_by : Form → Kept → List ItemText

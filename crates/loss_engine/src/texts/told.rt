@@ -1,14 +1,16 @@
 //! What is told of a frame and of a sample, as lines or as objects, one after another.
-ghost use Rattle.std.specs.Prelude.{◌≡◌, ◌<◌, ◌≤◌, ◌++◌, [], IfOk, IsOk, option_to_list};
+ghost use Rattle.std.specs.Prelude.{◌≡◌, ◌++◌, None, [], IfOk, IsOk, option_to_list};
 ghost use Rattle.std.specs.List.{flat_map};
 ghost use Rattle.text_core.specs.Pieces.{AppendsText};
-ghost use Rattle.loss_core.specs.Findings.{came_told, frame_findings, has_loss, synch_told};
+ghost use Rattle.loss_core.specs.Findings.{count_told, frame_findings, has_loss, synch_told};
 ghost use Rattle.loss_core.specs.computed.Given.{given};
 ghost use Rattle.loss_engine.specs.KeySaid.{key_said, stream_said};
-ghost use Rattle.loss_engine.specs.LossText.{told_line};
+ghost use Rattle.loss_engine.specs.LossText.{back_lines, told_line};
+ghost use Rattle.loss_engine.specs.computed.Entries.{IsPeriodOf};
 
 use crate::key::{Key, StreamKey};
 use crate::texts::finding::put_finding;
+use crate::texts::time_back::put_time_back;
 use loss_core::{
     Arrival, Came, Finding, Told, findings_of_frame, findings_of_sample, is_frame_quiet,
     is_sample_quiet,
@@ -57,6 +59,22 @@ fn put_findings<A: Allocator>(
     Ok(found)
 }
 
+/// Appends that time goes back at an event by so much, where it does.
+#[inline(always)]
+pub fn put_back<A: Allocator>(
+    out: &mut Vec<u8, A>,
+    heading: Heading,
+    back: Option<u64>,
+) -> Result<(), AllocError>
+    ensures text { AppendsText result out.old.items out.new.items (back_lines heading.form heading.number heading.moment back) }
+    ensures quiet { back ≡ None → IsOk result }
+{
+    match back {
+        None => Ok(()),
+        Some(by) => put_time_back(out, heading, by),
+    }
+}
+
 /// Appends what is told of a frame of a sender, and answers whether that is a loss.
 #[inline]
 pub fn put_frame<A: Allocator>(
@@ -76,24 +94,23 @@ pub fn put_frame<A: Allocator>(
     put_findings(out, heading, key, &findings_of_frame(frame, told))
 }
 
-/// Appends what is told of a sample of a stream with this many samples a second, and answers whether that is a loss: by what
-/// its count is, and by the smpSynch before it and its own.
+/// Appends what is told of a sample of a stream, and answers whether that is a loss: by what its count is, where the stream has a
+/// period of so many samples a second, and by the smpSynch before it and its own.
 #[inline]
 pub fn put_sample<A: Allocator>(
     out: &mut Vec<u8, A>,
     heading: &Heading,
     key: StreamKey<'_>,
-    period: u32,
+    period: Option<u32>,
     count: u16,
-    came: Came,
+    came: Option<Came>,
     before: Option<u8>,
     synch: u8,
 ) -> Result<bool, AllocError>
-    requires some { 0 < period }
-    requires most { period ≤ 65536 }
-    ensures text { AppendsText result out.old.items out.new.items (flat_map (told_line heading.now.form heading.now.number heading.now.moment (stream_said key.entry)) (came_told period count came ++ synch_told before synch)) }
-    ensures found { IfOk result (λ found. found ≡ has_loss (came_told period count came ++ synch_told before synch)) }
-    ensures quiet { came_told period count came ++ synch_told before synch ≡ [] → IsOk result }
+    requires { IsPeriodOf period }
+    ensures text { AppendsText result out.old.items out.new.items (flat_map (told_line heading.now.form heading.now.number heading.now.moment (stream_said key.entry)) (count_told period count came ++ synch_told before synch)) }
+    ensures found { IfOk result (λ found. found ≡ has_loss (count_told period count came ++ synch_told before synch)) }
+    ensures quiet { count_told period count came ++ synch_told before synch ≡ [] → IsOk result }
 {
     if is_sample_quiet(period, count, came, before, synch) {
         return Ok(false);

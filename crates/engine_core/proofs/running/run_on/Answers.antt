@@ -6,7 +6,7 @@ use Rattle.engine_core.proofs.running.run_on.Goals as goal
 pub returns-in-Err-clause-text : goal.returns-in-Err-clause-text
 returns-in-Err-clause-text g c =
     rw (c.ended_by.ensures.ending, c.ended_by.ensures.fault)
-    (not_begun _ _ _ _ _ _ _ (rw (← c.requires.first) c.in-Err.ensures.written.1))
+    (not_begun _ _ _ _ _ (rw (← c.requires.first) c.in-Err.ensures.written.1))
 
 pub answers-init : goal.answers-init
 answers-init g c = record {
@@ -33,7 +33,7 @@ returns-in-Ended-clause-text g c =
     let s = c.in-Ended.ensures.step in
     let w = s.2 p.0 p.1 in
     let q = rw w.0 at s.1 in
-    let r = ended _ _ _ _ _ _ _ p.0 _ _ _ _ _ (rw c.requires.first at c.in-Ok.ensures.written) p.2 q w.1 in
+    let r = ended _ _ _ _ _ p.0 _ _ _ _ _ (rw c.requires.first at c.in-Ok.ensures.written) p.2 q w.1 in
     rw c.ending_where.ensures r
 
 pub returns-in-Stop-clause-text : goal.returns-in-Stop-clause-text
@@ -41,5 +41,5 @@ returns-in-Stop-clause-text g c =
     let p = c.answers.invariant.so_far in
     let s = c.in-Stop.ensures.step in
     let w = stops_alike g.F.InputFault.refused _ _ c.answers.invariant.same p.0 s.0 c.in-Stop.halt _ _ (s.2 p.0 p.1) in
-    let r = stopped _ _ _ _ _ _ _ p.0 _ _ _ _ _ (rw c.requires.first at c.in-Ok.ensures.written) p.2 s.0 s.1 _ w in
+    let r = stopped _ _ _ _ _ p.0 _ _ _ _ _ (rw c.requires.first at c.in-Ok.ensures.written) p.2 s.0 s.1 _ w in
     rw (c.ended_by-in-Stop.ensures.ending, c.ended_by-in-Stop.ensures.fault) r

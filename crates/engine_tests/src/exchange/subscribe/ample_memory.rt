@@ -3,7 +3,7 @@
 use super::given::{event_with_frame, put_block};
 use crate::exchange::publish::frames::{NO_TIME, booleans, changed, control, publisher, step};
 use arrayvec::ArrayVec;
-use frame_core::{Event, EventKind};
+use list_core::{Event, EventKind};
 use mms_data::Octets;
 use std::alloc::{AllocError, Global};
 use std::test::Fail;

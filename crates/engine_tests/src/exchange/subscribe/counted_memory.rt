@@ -3,7 +3,7 @@
 use super::given::{Told, Want, event_with_frame, put_block, tells};
 use crate::exchange::publish::frames::{NO_TIME, changed, control, octet_strings, publisher, step};
 use arrayvec::ArrayVec;
-use frame_core::Event;
+use list_core::Event;
 use mms_data::ValueList;
 use publish_core::Publisher;
 use std::alloc::{AllocError, Allocator, Global};

@@ -1,7 +1,7 @@
 //! Blocks, events and what is told of an entry.
 
 use ber_core::Cause;
-use frame_core::{Event, EventKind};
+use list_core::{Event, EventKind};
 use mms_data::{Octets, Value};
 use std::alloc::{AllocError, Allocator};
 use subscribe_core::{Block, Entry, Reason};

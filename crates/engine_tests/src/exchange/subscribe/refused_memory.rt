@@ -2,7 +2,7 @@
 
 use super::given::{Given, Numbers, TRUE, Told, Want, event, put_block, tells};
 use ber_core::Cause;
-use frame_core::Event;
+use list_core::Event;
 use std::alloc::{AllocError, Allocator, Global};
 use std::test::Fail;
 use subscribe_core::{Block, Reason, SubscribeFault, Subscriber};

@@ -7,4 +7,4 @@ use Rattle.inventory_engine.proofs.engine.blocks_to_stop.Goals as goal
 pub returns-clause-text : goal.returns-clause-text
 returns-clause-text g c =
     let r = c.run_to_stop.ensures.text blocks_text (exactly_over (blocks_event Text) _) in
-    (r.0, r.1, (record { text = blocks_text; is_text = blocks_is; run = r.2.0 }, r.2.1))
+    (r.0, r.1, record { by = blocks_text; is = blocks_is; is_left = r.2 })

@@ -1,36 +1,6 @@
 use Rattle.std.proofs.Common.{sym}
 use Rattle.task_engine.proofs.performing.perform.Goals as goal
 
-pub returns-in-Show-clause-told : goal.returns-in-Show-clause-told
-returns-in-Show-clause-told g c = rw c.in-Show.is c.perform_show.ensures.told
-
-pub returns-in-Check-clause-told : goal.returns-in-Check-clause-told
-returns-in-Check-clause-told g c = rw c.in-Check.is c.perform_check.ensures.told
-
-pub returns-in-Rewrite-clause-told : goal.returns-in-Rewrite-clause-told
-returns-in-Rewrite-clause-told g c = rw c.in-Rewrite.is c.perform_rewrite.ensures.told
-
-pub returns-in-Replay-clause-text : goal.returns-in-Replay-clause-text
-returns-in-Replay-clause-text g c = rw c.in-Replay.is c.perform_replay.ensures.text
-
-pub returns-in-Replay-clause-told : goal.returns-in-Replay-clause-told
-returns-in-Replay-clause-told g c = rw c.in-Replay.is c.perform_replay.ensures.told
-
-pub returns-in-Publish-clause-told : goal.returns-in-Publish-clause-told
-returns-in-Publish-clause-told g c = rw c.in-Publish.is c.perform_publish.ensures.told
-
-pub returns-in-Watch-clause-told : goal.returns-in-Watch-clause-told
-returns-in-Watch-clause-told g c = rw (c.in-Watch.is, sym c.as_slice.ensures.value) c.perform_watch.ensures.told
-
-pub returns-in-Import-clause-told : goal.returns-in-Import-clause-told
-returns-in-Import-clause-told g c = rw c.in-Import.is c.perform_import.ensures.told
-
-pub returns-in-Losses-clause-told : goal.returns-in-Losses-clause-told
-returns-in-Losses-clause-told g c = rw c.in-Losses.is c.perform_losses.ensures.told
-
-pub returns-in-Losses-clause-passed : goal.returns-in-Losses-clause-passed
-returns-in-Losses-clause-passed g c = c.perform_losses.ensures.passed
-
 pub returns-in-Show-clause-text : goal.returns-in-Show-clause-text
 returns-in-Show-clause-text g c = rw c.in-Show.is c.perform_show.ensures.text
 
@@ -43,6 +13,9 @@ returns-in-Rewrite-clause-text g c = rw c.in-Rewrite.is c.perform_rewrite.ensure
 pub returns-in-Blocks-clause-text : goal.returns-in-Blocks-clause-text
 returns-in-Blocks-clause-text g c = rw c.in-Blocks.is c.perform_blocks.ensures.text
 
+pub returns-in-Replay-clause-text : goal.returns-in-Replay-clause-text
+returns-in-Replay-clause-text g c = rw c.in-Replay.is c.perform_replay.ensures.text
+
 pub returns-in-Publish-clause-text : goal.returns-in-Publish-clause-text
 returns-in-Publish-clause-text g c = rw c.in-Publish.is c.perform_publish.ensures.text
 
@@ -54,3 +27,6 @@ returns-in-Losses-clause-text g c = rw c.in-Losses.is c.perform_losses.ensures.t
 
 pub returns-in-Watch-clause-text : goal.returns-in-Watch-clause-text
 returns-in-Watch-clause-text g c = rw (c.in-Watch.is, sym c.as_slice.ensures.value) c.perform_watch.ensures.text
+
+pub returns-in-Losses-clause-passed : goal.returns-in-Losses-clause-passed
+returns-in-Losses-clause-passed g c = c.perform_losses.ensures.passed

@@ -3,8 +3,8 @@ use Rattle.list_core.specs.declared.device.InputEnd.{InputEnd}
 use Rattle.frame_engines.specs.ImportText.{ImportsTo}
 use Rattle.task_engine.proofs.performing.perform_import.Goals as goal
 
-pub returns-clause-told : goal.returns-clause-told
-returns-clause-told g c =
+pub returns-clause-text : goal.returns-clause-text
+returns-clause-text g c =
     let r = c.import_to_stop.ensures.text in
     let stopped = c.import_to_stop.result in
     rw (c.of_capture.ensures.reader, c.of_capture.ensures.ending, c.of_capture.ensures.told) (

@@ -8,13 +8,13 @@ use Rattle.loss_engine.proofs.losing.Losing.put_told.Goals as goal
 pub returns-in_err-found-in-Dated-clause-wants : goal.returns-in_err-found-in-Dated-clause-wants
 returns-in_err-found-in-Dated-clause-wants g c =
     let p = err_from_is_err_and c.from_residual.result c.from_residual.ensures.1 in
-    let w = rw c.pass.ensures.period at c.in_err-found-in-Dated.ensures.wants in
-    rw p.1 (rw c.in-Dated.is (wants_undated (period_of c.args.self.now) (kept_of c.args.self.now) (kept_by c.pass.new.self) c.args.number c.args.event.now c.pass.ensures.kept w))
+    let w = rw c.pass-back.ensures.period at c.in_err-found-in-Dated.ensures.wants in
+    rw p.1 (rw c.in-Dated.is (wants_undated (period_of c.args.self.now) (kept_of c.args.self.now) (kept_by c.pass-back.new.self) c.args.number c.args.event.now c.pass-back.result c.pass-back.ensures.back c.pass-back.ensures.kept w))
 
 pub returns-in_err-put_dated-in-Dated-clause-wants : goal.returns-in_err-put_dated-in-Dated-clause-wants
 returns-in_err-put_dated-in-Dated-clause-wants g c =
     let p = err_from_is_err_and c.from_residual-in_err-put_dated-in-Dated.result c.from_residual-in_err-put_dated-in-Dated.ensures.1 in
     let some : c.put_event-in-Dated.new.out.items ≡ [] → ⊥ = λ none. let h = c.in_err-put_dated-in-Dated.ensures.quiet (c.as_slice.ensures.value ∙ none) in cc in
-    let told = rw c.pass.ensures.period at c.in_ok-found-in-Dated.ensures.tells.text in
+    let told = rw c.pass-back.ensures.period at c.in_ok-found-in-Dated.ensures.tells.text in
     rw p.1 (rw c.in-Dated.is
-    (inr (wants_dated (period_of c.args.self.now) (kept_of c.args.self.now) (kept_by c.pass.new.self) c.args.number c.args.event.now c.pass.ensures.kept c.clear.new.self.items c.put_event-in-Dated.new.out.items c.clear.ensures.items told some)))
+    (inr (wants_dated (period_of c.args.self.now) (kept_of c.args.self.now) (kept_by c.pass-back.new.self) c.args.number c.args.event.now c.pass-back.result c.pass-back.ensures.back c.pass-back.ensures.kept c.clear.new.self.items c.put_event-in-Dated.new.out.items c.clear.ensures.items told some)))

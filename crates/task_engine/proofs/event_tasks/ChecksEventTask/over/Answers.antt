@@ -3,4 +3,4 @@ use Rattle.task_engine.proofs.event_tasks.ChecksEventTask.over.Goals as goal
 pub returns-clause-text : goal.returns-clause-text
 returns-clause-text g c =
     rw (c.of_input.ensures.ending, c.of_input.ensures.reader)
-    (record { fault = c.check_over.result.fault; by = c.of_input.ensures.fault; runs = record { by = tt; is = tt; run = c.check_over.ensures.text } })
+    (record { fault = c.check_over.result.fault; by = c.of_input.ensures.fault; is_left = record { by = tt; is = tt; is_left = c.check_over.ensures.text } })

@@ -1,3 +1,0 @@
-pub mod Stems
-pub mod PublishedList
-pub mod Laws

@@ -1,9 +1,0 @@
-use Rattle.goose_cmd.proofs.ListedBlocks.{listed_blocks_fit}
-use Rattle.goose_cmd.proofs.ListedTexts.{listed_blocks_are_apart}
-use Rattle.goose_cmd.proofs.laws.listed_blocks_replay.Goals as goal
-
-pub returns-clause-apart : goal.returns-clause-apart
-returns-clause-apart g c = listed_blocks_are_apart
-
-pub returns-clause-fit : goal.returns-clause-fit
-returns-clause-fit g c = listed_blocks_fit

@@ -1,0 +1,200 @@
+-- The samples of `watch`, as objects and as text.
+use Rattle.std.proofs.Common.{◌≡◌, ℕ, zero, suc, ◌*◌, Option, None, inl, inr, ◌+◌, ◌^◌, ◌<◌, ◌≤◌, Bool, true, false, List, [], ◌∷◌, ◌++◌, length, Some, ap, refl, sym, subst, ◌∙◌, arith, append_assoc}
+use Rattle.std.specs.Prelude.{◌⊎◌, Result, Ok, Err, codes, if◌then◌else◌, slice_get}
+use Rattle.std.proofs.lemmas.Bool.{cases_eq, cases_lt, eq-eqb, le-ltb, lt-ltb, ne_eqb}
+use Rattle.std.specs.List.{AllByRecursion}
+use Rattle.std.specs.Fmt.{decimal}
+use Rattle.std.specs.Str.{bytes_eq}
+use Rattle.std.proofs.lemmas.List.{length-append}
+use Rattle.ber_core.specs.Length.{AreOctets}
+use Rattle.ber_core.specs.declared.fault.Fault.{Fault}
+use Rattle.pdu_core.specs.SampledSpellable.{IsSpellableAsdu}
+use Rattle.pdu_core.specs.declared.sampled.asdu.Asdu.{Asdu}
+use Rattle.list_core.specs.declared.event.Event.{Event}
+use Rattle.list_core.specs.declared.event.EventKind.{EventKind}
+use Rattle.list_core.specs.declared.event.EventKind.TheVariants as kinds
+use Rattle.frame_core.specs.Written.{ApduIsSpellable}
+use Rattle.frame_core.specs.declared.frame.Apdu.{Apdu}
+use Rattle.frame_core.specs.declared.frame.Apdu.TheVariants as apdus
+use Rattle.frame_core.specs.declared.frame.Frame.{Frame}
+use Rattle.frame_core.specs.computed.FrameReading.{frame_at}
+use Rattle.frame_core.proofs.ReadingLaws.{frame_read_found}
+use Rattle.frame_core.proofs.SpelledSpellable.{frame_spellable}
+use Rattle.subscribe_core.specs.Watch.{AreSeen, by_way, seen_after, way}
+use Rattle.subscribe_core.specs.declared.watch.Seen.{Seen}
+use Rattle.subscribe_core.specs.declared.watch.Seen.TheVariants as seen
+use Rattle.subscribe_core.proofs.Counts.{answers_are_one}
+use Rattle.object_core.specs.declared.counted.Counted.{Counted}
+use Rattle.object_core.specs.declared.counted.Form.TheVariants as forms
+use Rattle.joint_laws.proofs.object_lemmas.PlainTexts.{by_test}
+use Rattle.joint_laws.proofs.object_lemmas.Containers.{Named}
+use Rattle.joint_laws.proofs.object_lemmas.Fields.{decimal_field}
+use Rattle.joint_laws.proofs.object_lemmas.Lines.{moment_then}
+use Rattle.exchange_engines.specs.SampleLine.{Sample, sample_line, seen_word}
+use Rattle.exchange_engines.specs.SampleObject.{sample_object}
+use Rattle.exchange_engines.specs.WatchText.{AreWatchTexts, WatchesEvent, counts, counts_of, frame_watched, sample_lines, samples_from, samples_in, samples_of, telling, watched, Telling}
+use Rattle.joint_laws.specs.Given.{IsGivenKind, IsWide}
+use Rattle.joint_laws.specs.JsonLines.{AreJsonLines, EventsAreJson, WatchIsJson}
+use Rattle.engine_core.specs.EventsText.{EventText, exactly_each}
+use Rattle.object_core.specs.declared.counted.Form.{Form}
+use Rattle.joint_laws.proofs.line_lemmas.FaultPlaces.{fault_wide}
+use Rattle.joint_laws.proofs.line_lemmas.SpokenLines.{Say, SayEach, json_lines, say_both, say_none, say_same}
+use Rattle.joint_laws.proofs.line_lemmas.Told.{say_event, say_fault}
+
+-- ---- one sample
+
+-- a sample of few bits, and an answer of few
+abbrev IsSmall : Sample → Type 0
+IsSmall s = IsWide s.position × IsWide s.count
+
+abbrev IsSmallSeen : Seen → Type 0
+IsSmallSeen seen.First = Unit {0}
+IsSmallSeen seen.Next = Unit {0}
+IsSmallSeen (seen.Skipped missing) = IsWide missing
+IsSmallSeen seen.Same = Unit {0}
+IsSmallSeen seen.Late = Unit {0}
+IsSmallSeen seen.OutOfRange = Unit {0}
+
+abbrev sample_fields : (s : Sample) → IsSmall s → List (Named 0) → List (Named 0)
+sample_fields s small more = decimal_field 0 (codes "asdu") s.position refl small.0 ∷ decimal_field 0 (codes "smpCnt") s.count refl small.1 ∷ more
+
+sample_said : (n p q w : List ℕ) → n ++ ((codes " " ++ p) ++ ((codes " " ++ q) ++ (w ++ codes "\n"))) ≡ n ++ (codes " " ++ p) ++ (codes " " ++ q) ++ w ++ codes "\n"
+sample_said n p q w = simp append_assoc
+
+say_sample : (c : Counted) (n moment : ℕ) (s : Sample) (answer : Seen) → IsWide n → IsWide moment → IsSmall s → IsSmallSeen answer → Say (sample_object c n moment s answer) (sample_line n s answer)
+say_sample c n moment s seen.First small past few told = say_event 0 c n small (moment_then 0 moment (codes "first") past (by_test (codes "first") refl) (sample_fields s few [])) _ (omega arith) refl refl (sample_said (decimal n) (decimal s.position) (decimal s.count) (seen_word seen.First))
+say_sample c n moment s seen.Next small past few told = say_event 0 c n small (moment_then 0 moment (codes "next") past (by_test (codes "next") refl) (sample_fields s few [])) _ (omega arith) refl refl (sample_said (decimal n) (decimal s.position) (decimal s.count) (seen_word seen.Next))
+say_sample c n moment s (seen.Skipped missing) small past few told =
+    say_event 0 c n small (moment_then 0 moment (codes "skipped") past (by_test (codes "skipped") refl) (sample_fields s few (decimal_field 0 (codes "missing") missing refl told ∷ []))) _ (omega arith) refl refl (sample_said (decimal n) (decimal s.position) (decimal s.count) (seen_word (seen.Skipped missing)))
+say_sample c n moment s seen.Same small past few told = say_event 0 c n small (moment_then 0 moment (codes "same") past (by_test (codes "same") refl) (sample_fields s few [])) _ (omega arith) refl refl (sample_said (decimal n) (decimal s.position) (decimal s.count) (seen_word seen.Same))
+say_sample c n moment s seen.Late small past few told = say_event 0 c n small (moment_then 0 moment (codes "late") past (by_test (codes "late") refl) (sample_fields s few [])) _ (omega arith) refl refl (sample_said (decimal n) (decimal s.position) (decimal s.count) (seen_word seen.Late))
+say_sample c n moment s seen.OutOfRange small past few told =
+    say_event 0 c n small (moment_then 0 moment (codes "out-of-range") past (by_test (codes "out-of-range") refl) (sample_fields s few [])) _ (omega arith) refl refl (sample_said (decimal n) (decimal s.position) (decimal s.count) (seen_word seen.OutOfRange))
+
+-- ---- the answers
+
+wide_way : (period d : ℕ) → IsWide period → IsSmallSeen (by_way period d)
+wide_way period d wide = go (cases_eq d 0) (cases_eq d 1) (cases_lt (2 * d) period)
+  where
+    go : (d ≡ 0) ⊎ (d ≡ 0 → ⊥) → (d ≡ 1) ⊎ (d ≡ 1 → ⊥) → (2 * d < period) ⊎ (period ≤ 2 * d) → IsSmallSeen (by_way period d)
+    go (inl e) b c = rw (eq-eqb d 0 e) tt
+    go (inr e) (inl f) c = rw (ne_eqb d 0 e, eq-eqb d 1 f) tt
+    go (inr e) (inr f) (inl lt) = rw (ne_eqb d 0 e, ne_eqb d 1 f, lt-ltb (2 * d) period lt) (omega arith)
+    go (inr e) (inr f) (inr le) = rw (ne_eqb d 0 e, ne_eqb d 1 f, le-ltb (2 * d) period le) tt
+
+wide_answer : (period : ℕ) (last : Option ℕ) (count : ℕ) → IsWide period → IsSmallSeen (seen_after period last count)
+wide_answer period last count wide = go last (cases_lt count period)
+  where
+    go : (o : Option ℕ) → (count < period) ⊎ (period ≤ count) → IsSmallSeen (seen_after period o count)
+    go None (inl lt) = rw (lt-ltb count period lt) tt
+    go None (inr le) = rw (le-ltb count period le) tt
+    go (Some l) (inl lt) = rw (lt-ltb count period lt) (wide_way period (way period l count) wide)
+    go (Some l) (inr le) = rw (le-ltb count period le) tt
+
+count_there : (cs : List ℕ) (ss : List Seen) (i : ℕ) (s : Seen) → length ss ≡ length cs → slice_get ss i ≡ Some s → (count : ℕ) × (slice_get cs i ≡ Some count)
+count_there cs [] i s e h = cc
+count_there [] (x ∷ ss) i s e h = absurd (omega arith)
+count_there (c ∷ cs) (x ∷ ss) zero s e h = (c, refl)
+count_there (c ∷ cs) (x ∷ ss) (suc i) s e h = count_there cs ss i s (omega arith) h
+
+each_small : (ss : List Seen) → ((i : ℕ) (s : Seen) → slice_get ss i ≡ Some s → IsSmallSeen s) → AllByRecursion IsSmallSeen ss
+each_small [] h = tt
+each_small (s ∷ ss) h = (h 0 s refl, each_small ss (λ i r e. h (suc i) r e))
+
+behind_small : (xs ys : List Seen) → AllByRecursion IsSmallSeen (xs ++ ys) → AllByRecursion IsSmallSeen ys
+behind_small [] ys h = h
+behind_small (x ∷ xs) ys h = behind_small xs ys h.1
+
+answers_small : (period : ℕ) (cs : List ℕ) (earlier answers : List Seen) → IsWide period → AreSeen period cs (earlier ++ answers) → AllByRecursion IsSmallSeen answers
+answers_small period cs earlier answers wide h =
+    behind_small earlier answers (each_small (earlier ++ answers) (λ i s e.
+    let here = count_there cs (earlier ++ answers) i s h.sizes e in
+    let is = h.each i here.0 s here.1 e in
+    subst IsSmallSeen (sym is.2) (wide_answer period is.0 here.0 wide)))
+
+same_tails : (a c b d : List Seen) → a ++ b ≡ c ++ d → length b ≡ length d → b ≡ d
+same_tails [] [] b d e l = e
+same_tails [] (y ∷ c) b d e l = absurd (omega (arith, ap (λ (s : List Seen). length s) e, length-append (y ∷ c) d))
+same_tails (x ∷ a) [] b d e l = absurd (omega (arith, ap (λ (s : List Seen). length s) e, length-append (x ∷ a) b))
+same_tails (x ∷ a) (y ∷ c) b d e l = let rest : a ++ b ≡ c ++ d = cc in same_tails a c b d rest l
+
+-- ---- the samples of an event
+
+samples_small : {A : Type 0} (k : ℕ) (id : List ℕ) (those : List (Asdu A)) → k + length those < 2 ^ 64 → AllByRecursion IsSpellableAsdu those → AllByRecursion IsSmall (samples_from k id those)
+samples_small k id [] few spelled = tt
+samples_small k id (a ∷ others) few spelled = go (bytes_eq a.sv_id id) (samples_small (k + 1) id others (omega arith) spelled.1)
+  where
+    go : (b : Bool) → AllByRecursion IsSmall (samples_from (k + 1) id others) → AllByRecursion IsSmall ((if b then record { position = k; count = a.smp_cnt } ∷ [] else []) ++ samples_from (k + 1) id others)
+    go true rest = ((omega arith, omega (arith, spelled.0.smp_cnt)), rest)
+    go false rest = rest
+
+samples_say : (c : Counted) (n moment : ℕ) (samples : List Sample) (answers : List Seen) → IsWide n → IsWide moment → AllByRecursion IsSmall samples → AllByRecursion IsSmallSeen answers
+    → Say (sample_lines (telling (forms.Object c) n moment) samples answers) (sample_lines (telling forms.Text n moment) samples answers)
+samples_say c n moment [] answers small past few told = say_none
+samples_say c n moment (s ∷ samples) [] small past few told = say_none
+samples_say c n moment (s ∷ samples) (answer ∷ answers) small past few told =
+    say_both _ _ _ _ (say_sample c n moment s answer small past few.0 told.0) (samples_say c n moment samples answers small past few.1 told.1)
+
+apdu_samples : {A : Type 0} (id : List ℕ) (a : Apdu A) → ApduIsSpellable a → AllByRecursion IsSmall (samples_in id a)
+apdu_samples id (apdus.Goose p) spelled = tt
+apdu_samples id (apdus.Sampled p) spelled = samples_small 0 id p.asdus (omega (arith, spelled.count)) spelled.each
+
+frame_says : {A : Type 0} (c : Counted) (n moment : ℕ) (id octets : List ℕ) (answers : List Seen) (r : Result (Frame A) Fault) → frame_at octets ≡ r → IsWide n → IsWide moment → AreOctets octets → ((f : Fault) → r ≡ Err f → IsWide f.place) → AllByRecursion IsSmallSeen answers
+    → Say (frame_watched (telling (forms.Object c) n moment) id r answers).0 (frame_watched (telling forms.Text n moment) id r answers).0
+frame_says c n moment id octets answers (Err f) read small past are place told = say_fault c n moment f small past (place f refl)
+frame_says c n moment id octets answers (Ok f) read small past are place told =
+    samples_say c n moment (samples_in id f.apdu) answers small past (apdu_samples id f.apdu (frame_spellable octets f are (frame_read_found octets f read))) told
+
+kind_says : {A : Type 0} (c : Counted) (n moment : ℕ) (id : List ℕ) (k : EventKind A) (answers : List Seen) → IsWide n → IsWide moment → IsGivenKind k → AllByRecursion IsSmallSeen answers
+    → Say (watched (telling (forms.Object c) n moment) id k answers).0 (watched (telling forms.Text n moment) id k answers).0
+kind_says c n moment id kinds.Clock answers small past given told = say_none
+kind_says c n moment id (kinds.Mode on) answers small past given told = say_none
+kind_says c n moment id (kinds.Frame octets) answers small past given told = frame_says {A = Unit {0}} c n moment id octets answers (frame_at octets) refl small past given (λ f e. fault_wide {A = Unit {0}} octets f e) told
+
+-- ---- what is written
+
+told_so : {A : Type 0} (form : Form) (period : ℕ) (id : List ℕ) (texts : Form → EventText A) (before : List (ℕ × Event A)) (e : ℕ × Event A)
+    (w : WatchesEvent (telling form e.0 e.1.moment) period id before e (Ok (texts form before e))) → texts form before e ≡ watched (telling form e.0 e.1.moment) id e.1.kind w.answers
+told_so form period id texts before e w = let lines = w.lines in cc
+
+-- whether it is a finding does not depend on how it is told
+frame_found : {A : Type 0} (t u : Telling) (id : List ℕ) (r : Result (Frame A) Fault) (answers : List Seen) → (frame_watched t id r answers).1 ≡ (frame_watched u id r answers).1
+frame_found t u id (Err f) answers = refl
+frame_found t u id (Ok f) answers = refl
+
+kind_found : {A : Type 0} (t u : Telling) (id : List ℕ) (k : EventKind A) (answers : List Seen) → (watched t id k answers).1 ≡ (watched u id k answers).1
+kind_found t u id kinds.Clock answers = refl
+kind_found t u id (kinds.Mode on) answers = refl
+kind_found t u id (kinds.Frame octets) answers = frame_found {A = Unit {0}} t u id (frame_at octets) answers
+
+-- the text of an event in a form, by its answers
+written_so : {A : Type 0} (form : Form) (period : ℕ) (id : List ℕ) (texts : Form → EventText A) (before : List (ℕ × Event A)) (e : ℕ × Event A) (written : List ℕ × Bool)
+    (w : WatchesEvent (telling form e.0 e.1.moment) period id before e (Ok (texts form before e))) → texts form before e ≡ written → written.0 ≡ (watched (telling form e.0 e.1.moment) id e.1.kind w.answers).0
+written_so form period id texts before e written w is =
+    ap (λ (x : List ℕ × Bool). x.0) (sym is ∙ told_so form period id texts before e w)
+
+watch_json : {A : Type 0} (period : ℕ) (id : List ℕ) (texts : Form → EventText A) → IsWide period → AreWatchTexts period id texts → EventsAreJson (exactly_each texts)
+watch_json period id texts wide are c before e written given is =
+    let w = are (forms.Object c) before e in
+    subst AreJsonLines (sym (written_so (forms.Object c) period id texts before e written w is))
+    (kind_says c e.0 e.1.moment id e.1.kind w.answers given.number given.moment given.kind (answers_small period _ w.earlier w.answers wide w.are_seen)).are_json
+
+pub watch_is_json : {A C F : Type 0} → WatchIsJson A C F
+watch_is_json {A} {C} {F} period id texts wide are = json_lines C F (exactly_each texts) (watch_json period id texts wide are)
+
+pub watch_says : {A : Type 0} (period : ℕ) (id : List ℕ) (texts : Form → EventText A) → IsWide period → AreWatchTexts period id texts → SayEach (exactly_each texts)
+watch_says period id texts wide are c before e objects lines given is also =
+    let w = are (forms.Object c) before e in
+    let v = are forms.Text before e in
+    let seen = (answers_are_one period (counts_of id before ++ counts (samples_of id e.1.kind))).1 (w.earlier ++ w.answers) (v.earlier ++ v.answers) w.are_seen v.are_seen in
+    let same : w.answers ≡ v.answers = same_tails w.earlier v.earlier w.answers v.answers seen (w.one_each ∙ sym v.one_each) in
+    let found = λ (x : List ℕ × Bool). x.1 in
+    let as_object = telling (forms.Object c) e.0 e.1.moment in
+    let as_text = telling forms.Text e.0 e.1.moment in (
+      say_same _ _ _ _ (written_so (forms.Object c) period id texts before e objects w is)
+          (written_so forms.Text period id texts before e lines v also ∙ sym (ap (λ (answers : List Seen). (watched as_text id e.1.kind answers).0) same))
+          (kind_says c e.0 e.1.moment id e.1.kind w.answers given.number given.moment given.kind (answers_small period _ w.earlier w.answers wide w.are_seen)),
+      ap found (sym is ∙ told_so (forms.Object c) period id texts before e w) ∙ kind_found as_object as_text id e.1.kind w.answers
+          ∙ ap (λ (answers : List Seen). (watched as_text id e.1.kind answers).1) same
+          ∙ ap found (sym (told_so forms.Text period id texts before e v) ∙ also),
+    )

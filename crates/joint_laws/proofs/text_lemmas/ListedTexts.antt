@@ -1,0 +1,281 @@
+-- What the lines of control blocks tell, where no block is configured anew: the block of each frame of GOOSE is listed.
+use Rattle.std.proofs.Common.{◌≡◌, ◌⊎◌, ℕ, zero, suc, ◌^◌, ◌<◌, ◌≤◌, Option, Some, None, List, [], ◌∷◌, ◌++◌, length, slice_get, Result, Ok, Err, inl, inr, ap, ap₂, subst, sym, ◌∙◌, refl, arith, append_assoc}
+use Rattle.std.specs.Prelude.{codes}
+use Rattle.std.specs.Str.{bytes_eq}
+use Rattle.std.specs.Fmt.{decimal}
+use Rattle.std.proofs.lemmas.Bool.{cases_Bool}
+use Rattle.std.proofs.lemmas.List.{append-nil}
+use Rattle.std.proofs.lemmas.Option.{none-some, same_Some}
+use Rattle.std.proofs.lemmas.Slice.Eq.{bytes_eq-Decides}
+use Rattle.ber_core.specs.Length.{AreOctets, number}
+use Rattle.ber_core.specs.declared.fault.Fault.{Fault}
+use Rattle.ber_core.proofs.Shortest.{number_small}
+use Rattle.mms_data.proofs.SpelledSpellable.{back_octets, front_octets}
+use Rattle.pdu_core.specs.declared.goose.GoosePdu.{GoosePdu}
+use Rattle.pdu_core.specs.declared.sampled.asdu.Asdu.{Asdu}
+use Rattle.pdu_core.specs.Spellable.{IsSpellableGoose}
+use Rattle.list_core.specs.declared.event.Event.{Event}
+use Rattle.list_core.specs.declared.event.EventKind.{EventKind}
+use Rattle.list_core.specs.declared.event.EventKind.TheVariants as kinds
+use Rattle.list_core.specs.declared.line_rules.ItemFault.{ItemFault}
+use Rattle.list_core.specs.declared.list_fault.ListCause.{ListCause}
+use Rattle.list_core.specs.declared.event_lines.EventLines.TheVariants.{First}
+use Rattle.list_core.specs.Cuts.{HasNo}
+use Rattle.list_core.specs.EventLine.{event_rules}
+use Rattle.list_core.specs.Items.{listing}
+use Rattle.list_core.specs.Lines.{Stop}
+use Rattle.list_core.proofs.Cuts.{HasNo-append}
+use Rattle.frame_core.specs.Frame.{SpellsFrame}
+use Rattle.frame_core.specs.computed.FrameReading.{frame_at}
+use Rattle.frame_core.specs.Written.{ApduIsSpellable}
+use Rattle.frame_core.specs.declared.frame.Apdu.{Apdu}
+use Rattle.frame_core.specs.declared.frame.Apdu.TheVariants as apdus
+use Rattle.frame_core.specs.declared.frame.Frame.{Frame}
+use Rattle.frame_core.proofs.ReadingLaws.{frame_read_found}
+use Rattle.frame_core.proofs.SpelledSpellable.{frame_spellable}
+use Rattle.block_core.specs.declared.block.Block.{Block}
+use Rattle.block_core.specs.BlockText.{block_in}
+use Rattle.subscribe_core.specs.computed.Content.{content_by, content_of, content_with}
+use Rattle.subscribe_core.specs.EventsRead.{Content, OfClock, OfFault, OfGoose, OfMode, OfSampled}
+use Rattle.engine_core.specs.computed.WholeText.{told_after}
+use Rattle.inventory_engine.specs.Configuration.{configuration_of}
+use Rattle.inventory_engine.specs.Sightings.{Key, Sighting, block_sighting, key_of, sightings_in, sightings_of, sightings_read, sightings_with, stream_sighting, stream_sightings}
+use Rattle.inventory_engine.specs.BlocksText.{IsNewest, changed_kind, first_kind, in_lines, line_after, sighting_line, spaced_word}
+use Rattle.inventory_engine.specs.computed.BlocksStep.{blocks_text, newest, written_of}
+use Rattle.inventory_engine.specs.Laws.{IsFirst, block_told}
+use Rattle.inventory_engine.proofs.Appending.{sightings-push}
+use Rattle.inventory_engine.proofs.FirstLines.{one_first}
+use Rattle.inventory_engine.proofs.Newest.{newest_is}
+use Rattle.joint_laws.specs.ListedBlocks.{AreListed, IsBlockOf, ListedBlocksAreApart, LineTells}
+use Rattle.joint_laws.proofs.text_lemmas.BlockTexts.{block_says, block_unbroken, chosen, decimal_unbroken, no_stream, otherwise, word_unbroken}
+use Rattle.joint_laws.proofs.text_lemmas.ListedItems.{AreKept, KeepsOctets, list_kept}
+
+-- ---- what an event shows
+
+-- a control block, which can stand in a list, or streams
+abbrev Shows : List Sighting → Type 0
+Shows seen =
+    ((app_id : ℕ) × (p : GoosePdu (Unit {0})) × (app_id < 65536) × IsSpellableGoose p × (seen ≡ block_sighting (configuration_of app_id p) ∷ []))
+    ⊎ ((asdus : List (Asdu (Unit {0}))) × (seen ≡ stream_sightings asdus))
+
+address_small : (o : List ℕ) (f : Frame (Unit {0})) → AreOctets o → SpellsFrame f o → f.app_id < 65536
+address_small o f h s =
+    let h0 = subst AreOctets s.parts h in
+    let h1 = back_octets f.destination _ h0 in
+    let h2 = back_octets f.source _ h1 in
+    let h3 = back_octets s.tag _ h2 in
+    let h4 = back_octets s.ether_type _ h3 in
+    let h5 = front_octets s.app_id _ h4 in
+    let size : length s.app_id ≡ 2 = s.addressed.0 in
+    let is : number s.app_id ≡ f.app_id = s.addressed.1 in
+    let small : number s.app_id < 256 ^ 2 = subst (λ (n : ℕ). number s.app_id < 256 ^ n) size (number_small s.app_id h5) in
+    omega (arith, small, is)
+
+apdu_shows : (app_id : ℕ) (a : Apdu (Unit {0})) → app_id < 65536 → ApduIsSpellable a → Shows (sightings_with app_id a)
+apdu_shows app_id (apdus.Goose p) small spelled = inl (app_id, p, small, spelled, refl)
+apdu_shows app_id (apdus.Sampled p) small spelled = inr (p.asdus, refl)
+
+octets_show : (o : List ℕ) (r : Result (Frame (Unit {0})) Fault) → AreOctets o → frame_at o ≡ r → Shows (sightings_read r)
+octets_show o (Ok f) h is =
+    let s = frame_read_found o f is in
+    apdu_shows f.app_id f.apdu (address_small o f h s) (frame_spellable o f h s)
+octets_show o (Err e) h is = inr ([], refl)
+
+event_shows : {A : Type 0} (k : EventKind A) → KeepsOctets k → Shows (sightings_of k)
+event_shows (kinds.Frame o) h = octets_show o (frame_at o) h refl
+event_shows kinds.Clock h = inr ([], refl)
+event_shows (kinds.Mode on) h = inr ([], refl)
+
+-- ---- what its lines tell
+
+-- a sighting's text is the BLOCK of one of these blocks
+abbrev Listed : {A : Type 0} → List (Block A) → Sighting → Type 0
+Listed blocks s = IsBlockOf blocks s.text
+
+-- so is that of each control block that is seen
+abbrev AllListed : {A : Type 0} → List (Block A) → List Sighting → Type 0
+AllListed blocks seen = (i : ℕ) (s : Sighting) (app_id : ℕ) → slice_get seen i ≡ Some s → s.app_id ≡ Some app_id → Listed blocks s
+
+-- what is in front of a line
+abbrev Starts : List ℕ → Type 0
+Starts front = (front ≡ []) ⊎ ((earlier : List ℕ) × (front ≡ earlier ++ 10 ∷ []))
+
+line_ends : (front : List ℕ) (n : ℕ) (word text : List ℕ) → Starts (front ++ sighting_line n word text)
+line_ends front n word text = inr (front ++ (decimal n ++ word ++ text), sym (append_assoc front (decimal n ++ word ++ text) (10 ∷ [])))
+
+after_ends : (front : List ℕ) (n : ℕ) (s : Sighting) (o : Option (List ℕ)) → Starts front → Starts (front ++ line_after (in_lines n) s o)
+after_ends front n s None h = line_ends front n (spaced_word (first_kind s.app_id)) s.text
+after_ends front n s (Some last) h = elim (cases_Bool (bytes_eq last s.text)) [
+  | inl same ↦
+      subst (λ (l : List ℕ). Starts (front ++ l)) (sym (chosen (bytes_eq last s.text) [] (sighting_line n (spaced_word (changed_kind s.app_id)) s.text) same)) (subst Starts (sym (append-nil front)) h)
+  | inr other ↦
+      subst (λ (l : List ℕ). Starts (front ++ l)) (sym (otherwise (bytes_eq last s.text) [] (sighting_line n (spaced_word (changed_kind s.app_id)) s.text) other)) (line_ends front n (spaced_word (changed_kind s.app_id)) s.text)
+]
+
+written_ends : (front : List ℕ) (n : ℕ) (earlier seen : List Sighting) → Starts front → Starts (front ++ written_of (in_lines n) earlier seen)
+written_ends front n earlier [] h = subst Starts (sym (append-nil front)) h
+written_ends front n earlier (s ∷ seen) h =
+    let line = line_after (in_lines n) s (newest earlier (key_of s)) in
+    subst Starts (append_assoc front line (written_of (in_lines n) (earlier ++ s ∷ []) seen))
+    (written_ends (front ++ line) n (earlier ++ s ∷ []) seen (after_ends front n s (newest earlier (key_of s)) h))
+
+line_there : (text front rest : List ℕ) (n : ℕ) (word told : List ℕ) → text ≡ front ++ ((sighting_line n word told ++ []) ++ rest) → Starts front → n ≤ 1000000 → HasNo 10 word → HasNo 10 told → LineTells text word told
+line_there text front rest n word told is starts small plain unbroken = record {
+  number = n;
+  at_most = small;
+  has_line = record {
+    before = front;
+    after = rest;
+    whole = is ∙ ap (λ (l : List ℕ). front ++ l) regrouped;
+    starts_line = starts;
+    has_no_lf = HasNo-append 10 (decimal n ++ word) told (HasNo-append 10 (decimal n) word (decimal_unbroken n (omega (arith, small))) plain) unbroken;
+  };
+}
+  where
+    regrouped : (sighting_line n word told ++ []) ++ rest ≡ (decimal n ++ word ++ told) ++ 10 ∷ rest
+    regrouped = ap (λ (l : List ℕ). l ++ rest) (append-nil (sighting_line n word told)) ∙ append_assoc (decimal n ++ word ++ told) (10 ∷ []) rest
+
+-- ---- what a subscriber reads
+
+-- the block of a frame of GOOSE is there
+abbrev pub IsThere : {A : Type 0} → List (Block A) → Content → Type 0
+IsThere blocks (OfGoose f) = (k : ℕ) × (slice_get blocks k ≡ Some (block_told (configuration_of f.app_id f.pdu)))
+IsThere blocks OfSampled = Unit {0}
+IsThere blocks (OfFault fault) = Unit {0}
+IsThere blocks OfClock = Unit {0}
+IsThere blocks (OfMode on) = Unit {0}
+
+-- so are those of all events
+abbrev pub AreThere : {A : Type 0} → List (Block A) → List (ℕ × Event A) → Type 0
+AreThere blocks [] = Unit {0}
+AreThere blocks (e ∷ es) = IsThere blocks (content_of e.1.kind) × AreThere blocks es
+
+module _ {A : Type 0} (blocks : List (Block A)) (text : List ℕ) (listed : AreListed text blocks) where
+  module _ (earlier : List Sighting) (all : AllListed blocks earlier) (n : ℕ) (small : n ≤ 1000000) (front rest : List ℕ) (starts : Starts front) where
+    -- a control block whose line stands there is listed
+    module _ (app_id : ℕ) (p : GoosePdu (Unit {0})) (low : app_id < 65536) (spelled : IsSpellableGoose p) where
+      abbrev seen_now : Sighting
+      seen_now = block_sighting (configuration_of app_id p)
+
+      seen_before : (last : List ℕ) → IsNewest earlier (key_of seen_now) (Some last) → last ≡ seen_now.text → Listed blocks seen_now
+      seen_before last is same =
+          let w = all is.position is.is.sighting app_id is.is.there (ap (λ (k : Key). k.0) is.is.has_key) in
+          record { position = w.position; block = w.block; there = w.there; says = ap (λ (t : List ℕ). block_in {A = A} t) (sym same ∙ sym is.has_text) ∙ w.says }
+
+      by_newest : (o : Option (List ℕ)) → IsNewest earlier (key_of seen_now) o → text ≡ front ++ ((line_after (in_lines n) seen_now o ++ []) ++ rest) → Listed blocks seen_now
+      by_newest None is stands =
+          listed.each seen_now.text (line_there text front rest n (codes " block ") seen_now.text stands starts small (word_unbroken (codes " block ") refl) (block_unbroken app_id p low spelled))
+      by_newest (Some last) is stands = elim (cases_Bool (bytes_eq last seen_now.text)) [
+        | inl same ↦ seen_before last is ((bytes_eq-Decides last seen_now.text).0 same)
+        | inr other ↦
+            let line : line_after (in_lines n) seen_now (Some last) ≡ sighting_line n (codes " block-changed ") seen_now.text =
+            otherwise (bytes_eq last seen_now.text) [] (sighting_line n (codes " block-changed ") seen_now.text) other in
+            absurd (listed.none_changes seen_now.text
+            (line_there text front rest n (codes " block-changed ") seen_now.text (stands ∙ ap (λ (l : List ℕ). front ++ ((l ++ []) ++ rest)) line) starts small (word_unbroken (codes " block-changed ") refl) (block_unbroken app_id p low spelled)))
+      ]
+
+      now_listed : text ≡ front ++ (written_of (in_lines n) earlier (seen_now ∷ []) ++ rest) → Listed blocks seen_now
+      now_listed stands = by_newest (newest earlier (key_of seen_now)) (newest_is earlier (key_of seen_now)) stands
+
+    -- so are all control blocks of the event
+    shown_listed : (seen : List Sighting) → Shows seen → text ≡ front ++ (written_of (in_lines n) earlier seen ++ rest) → AllListed blocks seen
+    shown_listed seen (inl w) stands =
+        subst (AllListed blocks) (sym w.4) (λ i s app_id at own. only (block_sighting (configuration_of w.0 w.1)) (now_listed w.0 w.1 w.2 w.3 (stands ∙ ap (λ (l : List Sighting). front ++ (written_of (in_lines n) earlier l ++ rest)) w.4)) i s at)
+      where
+        only : (x : Sighting) → Listed blocks x → (i : ℕ) (s : Sighting) → slice_get (x ∷ []) i ≡ Some s → Listed blocks s
+        only x l zero s at = subst (Listed blocks) (same_Some x s at) l
+        only x l (suc i) s at = absurd (none-some s at)
+    shown_listed seen (inr w) stands = subst (AllListed blocks) (sym w.1) (λ i s app_id at own. absurd (nameless w.0 i s app_id at own))
+      where
+        nameless : (asdus : List (Asdu (Unit {0}))) (i : ℕ) (s : Sighting) (app_id : ℕ) → slice_get (stream_sightings asdus) i ≡ Some s → s.app_id ≡ Some app_id → ⊥
+        nameless [] i s app_id at own = none-some s at
+        nameless (a ∷ asdus) zero s app_id at own = none-some app_id (ap (λ (x : Sighting). x.app_id) (same_Some (stream_sighting a) s at) ∙ own)
+        nameless (a ∷ asdus) (suc i) s app_id at own = nameless asdus i s app_id at own
+
+  apdu_there : (app_id : ℕ) (a : Apdu (Unit {0})) → app_id < 65536 → ApduIsSpellable a → AllListed blocks (sightings_with app_id a) → IsThere blocks (content_with app_id a)
+  apdu_there app_id (apdus.Goose p) small spelled all =
+      let w = all 0 (block_sighting (configuration_of app_id p)) app_id refl refl in
+      (w.position, w.there ∙ ap (λ (b : Block A). Some b) (block_says app_id p w.block small spelled w.says))
+  apdu_there app_id (apdus.Sampled p) small spelled all = tt
+
+  octets_there : (o : List ℕ) (r : Result (Frame (Unit {0})) Fault) → AreOctets o → frame_at o ≡ r → AllListed blocks (sightings_read r) → IsThere blocks (content_by r)
+  octets_there o (Ok f) h is all =
+      let s = frame_read_found o f is in
+      apdu_there f.app_id f.apdu (address_small o f h s) (frame_spellable o f h s) all
+  octets_there o (Err e) h is all = tt
+
+  event_there : (k : EventKind A) → KeepsOctets k → AllListed blocks (sightings_of k) → IsThere blocks (content_of k)
+  event_there (kinds.Frame o) h all = octets_there o (frame_at o) h refl all
+  event_there kinds.Clock h all = tt
+  event_there (kinds.Mode on) h all = tt
+
+  -- ---- all events
+
+  get_parts : (xs ys : List Sighting) (i : ℕ) (s : Sighting) → slice_get (xs ++ ys) i ≡ Some s → (slice_get xs i ≡ Some s) ⊎ ((j : ℕ) × (slice_get ys j ≡ Some s))
+  get_parts [] ys i s at = inr (i, at)
+  get_parts (x ∷ xs) ys zero s at = inl at
+  get_parts (x ∷ xs) ys (suc i) s at = get_parts xs ys i s at
+
+  both_listed : (xs ys : List Sighting) → AllListed blocks xs → AllListed blocks ys → AllListed blocks (xs ++ ys)
+  both_listed xs ys h g i s app_id at own = elim (get_parts xs ys i s at) [ inl old ↦ h i s app_id old own | inr new ↦ g new.0 s app_id new.1 own ]
+
+  pub events_there : (stop : Stop (ItemFault ListCause)) (before items : List (ℕ × Event A)) (front : List ℕ) → AreKept 1000000 items → AllListed blocks (sightings_in before) → Starts front → text ≡ front ++ (told_after blocks_text before items stop).text → AreThere blocks items
+  unfolding told_after
+  events_there stop before [] front kept all starts stands = tt
+  events_there stop before (e ∷ items) front kept all starts stands =
+      let now = written_of (in_lines e.0) (sightings_in before) (sightings_of e.1.kind) in
+      let rest = (told_after blocks_text (before ++ e ∷ []) items stop).text in
+      let shown = shown_listed (sightings_in before) all e.0 kept.0 front rest starts (sightings_of e.1.kind) (event_shows e.1.kind kept.1) stands in
+      let next = subst (AllListed blocks) (sym (sightings-push before e)) (both_listed (sightings_in before) (sightings_of e.1.kind) all shown) in (
+        event_there e.1.kind kept.1 shown,
+        events_there stop (before ++ e ∷ []) items (front ++ now) kept.2 next (written_ends front e.0 (sightings_in before) (sightings_of e.1.kind) starts) (stands ∙ sym (append_assoc front now rest)),
+      )
+
+-- ---- keys
+
+abbrev named : ℕ → List ℕ → Key
+named app_id gocb_ref = (Some app_id, gocb_ref)
+
+-- a text that is a BLOCK is that of the control block that it says
+abbrev SaysKey : Type 0 → Sighting → Type 0
+SaysKey A s = (block : Block A) → block_in s.text ≡ Some block → key_of s ≡ named block.app_id block.gocb_ref
+
+abbrev SayKeys : Type 0 → List Sighting → Type 0
+SayKeys A [] = Unit {0}
+SayKeys A (s ∷ seen) = SaysKey A s × SayKeys A seen
+
+streams_say : (A : Type 0) (asdus : List (Asdu (Unit {0}))) → SayKeys A (stream_sightings asdus)
+streams_say A [] = tt
+streams_say A (a ∷ asdus) = (λ block is. absurd (none-some block (sym (no_stream A a.conf_rev a.sv_id) ∙ is)), streams_say A asdus)
+
+shown_say : (A : Type 0) (seen : List Sighting) → Shows seen → SayKeys A seen
+shown_say A seen (inl w) =
+    subst (SayKeys A) (sym w.4) (λ block is. ap (λ (b : Block A). named b.app_id b.gocb_ref) (sym (block_says w.0 w.1 block w.2 w.3 is)), tt)
+shown_say A seen (inr w) = subst (SayKeys A) (sym w.1) (streams_say A w.0)
+
+both_say : (A : Type 0) (xs ys : List Sighting) → SayKeys A xs → SayKeys A ys → SayKeys A (xs ++ ys)
+both_say A [] ys h g = g
+both_say A (x ∷ xs) ys h g = (h.0, both_say A xs ys h.1 g)
+
+items_say : (A : Type 0) (items : List (ℕ × Event A)) → AreKept 1000000 items → SayKeys A (sightings_in items)
+items_say A [] kept = tt
+items_say A (e ∷ items) kept = both_say A (sightings_of e.1.kind) (sightings_in items) (shown_say A (sightings_of e.1.kind) (event_shows e.1.kind kept.1)) (items_say A items kept.2)
+
+says_at : (A : Type 0) (seen : List Sighting) (i : ℕ) (s : Sighting) → SayKeys A seen → slice_get seen i ≡ Some s → SaysKey A s
+says_at A [] i s h at = absurd (none-some s at)
+says_at A (x ∷ seen) zero s h at = subst (SaysKey A) (same_Some x s at) h.0
+says_at A (x ∷ seen) (suc i) s h at = says_at A seen i s h.1 at
+
+pub listed_blocks_are_apart : {A : Type 0} → ListedBlocksAreApart A
+listed_blocks_are_apart {A} z list i j a b one_line other_line name =
+    let items = (listing (event_rules {A = A}) First z 0 list).items in
+    let seen = sightings_in items in
+    let all = items_say A items (list_kept A z list) in
+    let first = one_line.first.is in
+    let other = other_line.first.is in
+    let key_a = says_at A seen i first.sighting all first.there a one_line.says in
+    let key_b = says_at A seen j other.sighting all other.there b other_line.says in
+    let keys : named a.app_id a.gocb_ref ≡ named b.app_id b.gocb_ref = ap₂ named name.0 name.1 in
+    let same : other_line.key ≡ one_line.key = sym other.has_key ∙ (key_b ∙ (sym keys ∙ (sym key_a ∙ first.has_key))) in
+    let one = one_first seen one_line.key i first in
+    one.only i one_line.first ∙ sym (one.only j (subst (λ (k : Key). IsFirst seen k j) same other_line.first))

@@ -1,0 +1,185 @@
+-- A list that is written is listed as its events, and replayed by the lines of their entries.
+use Rattle.std.proofs.Common.{◌≡◌, ℕ, suc, ◌+◌, ◌^◌, ◌<◌, ◌≤◌, max, false, inl, inr, Option, Some, None, List, [], ◌∷◌, ◌++◌, length, slice_get, Ok, ap, ap₂, subst, sym, ◌∙◌, refl, arith, append_assoc}
+use Rattle.std.specs.List.{flat_map}
+use Rattle.std.proofs.lemmas.Bool.{cases_lt}
+use Rattle.std.proofs.lemmas.List.{append-nil, length_push}
+use Rattle.list_core.specs.declared.device.InputEnd.TheVariants.{End}
+use Rattle.list_core.specs.declared.event.Event.{Event}
+use Rattle.list_core.specs.declared.event_lines.EventLines.TheVariants.{After}
+use Rattle.list_core.specs.declared.event_lines.MomentUnit.TheVariants.{Microseconds}
+use Rattle.list_core.specs.declared.list_fault.ListCause.{ListCause}
+use Rattle.list_core.specs.EventLine.{event_rules}
+use Rattle.list_core.specs.EventText.{event_text}
+use Rattle.list_core.specs.Items.{Listing, items_in, items_said, listing, put_item, stops}
+use Rattle.list_core.specs.Lines.{finished}
+use Rattle.frame_core.specs.Written.{written_frame}
+use Rattle.frame_core.specs.declared.frame.Frame.{Frame}
+use Rattle.list_core.proofs.Lines.{reading-end}
+use Rattle.list_core.proofs.WrittenLines.{version-first, written-first}
+use Rattle.publish_core.specs.Frames.{Setup, frame}
+use Rattle.publish_core.specs.Numbers.{state_number}
+use Rattle.publish_core.specs.Run.{Request, Call, IsAnswer, trace_of_calls}
+use Rattle.publish_core.proofs.GivesOne.{carried}
+use Rattle.block_core.specs.declared.block.Block.{Block}
+use Rattle.subscribe_core.specs.declared.entry.Entry.{Entry}
+use Rattle.subscribe_core.specs.Entries.{AreEntriesAt}
+use Rattle.subscribe_core.specs.Apart.{AreApart}
+use Rattle.subscribe_core.proofs.Runs.{entries_are_one, entries_stay}
+use Rattle.joint_laws.specs.PublishedList.{Sent, one_entry_each, published_events, sent_from, with_frame}
+use Rattle.joint_laws.specs.Stems.{AreAccepted, HasSizes}
+use Rattle.joint_laws.proofs.exchange_lemmas.OneFrame.{one_apart}
+use Rattle.joint_laws.proofs.exchange_lemmas.PublishedLists.{whole_runs_replay}
+use Rattle.joint_laws.proofs.exchange_lemmas.WrittenForms.{change_accepted}
+use Rattle.engine_core.specs.EngineText.{Text}
+use Rattle.engine_core.specs.computed.WholeText.{Account, put_step, told_after}
+use Rattle.exchange_engines.specs.EntryText.{entry_lines}
+use Rattle.joint_laws.specs.ListText.{CanBeListed, MomentsAreShort, ReplayGives, SendsOctets, lines_from, list_of_text, list_text}
+use Rattle.joint_laws.specs.ListLaws.{CanBeSent, CanBeWritten, PublishedListsReplay, WrittenListsReplay}
+use Rattle.exchange_engines.specs.ReplayText.{IsReplayText, events_of}
+use Rattle.exchange_engines.proofs.ReplayLemmas.{events_push}
+
+-- events with the numbers of their lines, of which the first is n
+abbrev numbered : {A : Type 0} → ℕ → List (Event A) → List (ℕ × Event A)
+numbered n [] = []
+numbered n (e ∷ es) = (n, e) ∷ numbered (n + 1) es
+
+abbrev whole : {A : Type 0} → ℕ → List (Event A) → Listing (Event A) ListCause
+whole n events = record { items = numbered n events; stop = finished }
+
+-- the end of a list, of which the lines behind n others say nothing
+abbrev pub EndsList : Type 0 → ℕ → List ℕ → Type 0
+EndsList A n end = listing (event_rules {A = A}) (After Microseconds) End n end ≡ stops finished
+
+pub nothing_ends : (A : Type 0) (n : ℕ) → EndsList A n []
+unfolding items_said
+nothing_ends A n = ap (items_in (event_rules {A = A}) (After Microseconds) n) (reading-end n)
+
+all_listed : {A : Type 0} (n : ℕ) (events : List (Event A)) (end : List ℕ) → CanBeListed events → n + length events ≤ 1000000 → EndsList A (n + length events) end → listing event_rules (After Microseconds) End n (flat_map event_text events ++ end) ≡ whole (n + 1) events
+all_listed {A} n [] end w room ends = let same : n + 0 ≡ n = omega arith in subst (λ (m : ℕ). EndsList A m end) same ends
+all_listed {A} n (e ∷ es) end w room ends =
+    let same : n + suc (length es) ≡ n + 1 + length es = omega arith in
+    ap (listing (event_rules {A = A}) (After Microseconds) End n) (append_assoc (event_text e) (flat_map event_text es) end) ∙
+    written-first e w.0.0 w.0.1 End n (flat_map event_text es ++ end) (omega arith) ∙
+    ap (put_item (n + 1, e)) (all_listed (n + 1) es end w.1 (omega arith) (subst (λ (m : ℕ). EndsList A m end) same ends))
+
+list_is : {A : Type 0} (events : List (Event A)) (end : List ℕ) → CanBeListed events → length events < 1000000 → EndsList A (1 + length events) end → list_of_text (list_text events ++ end) ≡ whole 2 events
+list_is {A} events end w room ends = version-first A End (flat_map event_text events ++ end) ∙ all_listed 1 events end w (omega arith) ends
+
+-- the step of an event is the lines of the entries that the whole list has there
+pub step_is : {A : Type 0} (blocks : List (Block A)) (t : Text (Event A) ListCause) → AreApart blocks → IsReplayText blocks t → (before : List (ℕ × Event A)) (n : ℕ) (e : Event A) (es : List (Event A)) (x : List (Entry A)) → AreEntriesAt blocks (events_of before ++ e ∷ es) (length (events_of before)) x → t.of_item before (n, e) ≡ Ok (entry_lines n x, false)
+step_is {A} blocks t apart is before n e es x at =
+    let w = is.each_item before (n, e) in
+    let stay : AreEntriesAt blocks (events_of before ++ e ∷ es) (length (events_of before)) w.entries =
+    subst (λ (l : List (Event A)). AreEntriesAt blocks l (length (events_of before)) w.entries) (append_assoc (events_of before) (e ∷ []) es)
+    (entries_stay blocks (events_of before ++ e ∷ []) es (length (events_of before)) w.entries w.are_entries) in
+    let same : w.entries ≡ x = entries_are_one blocks (events_of before ++ e ∷ es) (length (events_of before)) w.entries x apart stay at in
+    w.lines ∙ ap (λ (y : List (Entry A)). Ok (entry_lines n y, false)) same
+
+abbrev lines_told : {A : Type 0} → ℕ → List (List (Entry A)) → Account ListCause
+lines_told n rest = record { text = lines_from n rest; found = false; stop = finished }
+
+lines_are : {A : Type 0} (blocks : List (Block A)) (t : Text (Event A) ListCause) → AreApart blocks → IsReplayText blocks t → (before : List (ℕ × Event A)) (n : ℕ) (es : List (Event A)) (rest : List (List (Entry A))) → length rest ≡ length es → ((i : ℕ) (x : List (Entry A)) → slice_get rest i ≡ Some x → AreEntriesAt blocks (events_of before ++ es) (length (events_of before) + i) x) → told_after t before (numbered n es) finished ≡ lines_told n rest
+unfolding told_after
+lines_are blocks t apart is before n [] [] size each = refl
+lines_are blocks t apart is before n [] (x ∷ rest) size each = absurd (omega arith)
+lines_are blocks t apart is before n (e ∷ es) [] size each = absurd (omega arith)
+lines_are {A} blocks t apart is before n (e ∷ es) (x ∷ rest) size each =
+    ap (λ s. put_step t n s (told_after t next (numbered (n + 1) es) finished)) (step_is blocks t apart is before n e es x here) ∙
+    ap (put_step t n (Ok (entry_lines n x, false))) (lines_are blocks t apart is next (n + 1) es rest (omega arith) after)
+  where
+    next : List (ℕ × Event A)
+    next = before ++ (n, e) ∷ []
+
+    here : AreEntriesAt blocks (events_of before ++ e ∷ es) (length (events_of before)) x
+    here = let none : length (events_of before) + 0 ≡ length (events_of before) = omega arith in subst (λ (i : ℕ). AreEntriesAt blocks (events_of before ++ e ∷ es) i x) none (each 0 x refl)
+
+    passed : events_of next ≡ events_of before ++ e ∷ []
+    passed = events_push before (n, e)
+
+    same : events_of before ++ e ∷ es ≡ events_of next ++ es
+    same = sym (ap (λ (l : List (Event A)). l ++ es) passed ∙ append_assoc (events_of before) (e ∷ []) es)
+
+    more : (i : ℕ) → length (events_of before) + suc i ≡ length (events_of next) + i
+    more i = let longer : length (events_of next) ≡ length (events_of before ++ e ∷ []) = ap length passed in omega (arith, longer, length_push (events_of before) e)
+
+    after : (i : ℕ) (y : List (Entry A)) → slice_get rest i ≡ Some y → AreEntriesAt blocks (events_of next ++ es) (length (events_of next) + i) y
+    after i y at =
+        subst (λ (j : ℕ). AreEntriesAt blocks (events_of next ++ es) j y) (more i)
+        (subst (λ (l : List (Event A)). AreEntriesAt blocks l (length (events_of before) + suc i) y) same (each (suc i) y at))
+
+-- a list that is written and ended so is replayed by the lines of the entries
+pub ended_lists_replay : {A : Type 0} (blocks : List (Block A)) (events : List (Event A)) (entries : List (List (Entry A))) (end : List ℕ) (t : Text (Event A) ListCause) →
+    CanBeWritten blocks events entries → IsReplayText blocks t → EndsList A (1 + length events) end → ReplayGives t (list_text events ++ end) entries
+ended_lists_replay {A} blocks events entries end t w is ends = record {
+  writes = ap₂ (λ (a : List ℕ) (o : Account ListCause). a ++ o.text) is.first told_is;
+  to_its_end = ap (λ (o : Account ListCause). o.stop) told_is;
+}
+  where
+    at : (i : ℕ) (x : List (Entry A)) → slice_get entries i ≡ Some x → AreEntriesAt blocks events (0 + i) x
+    at i x here = let none : i ≡ 0 + i = omega arith in subst (λ (j : ℕ). AreEntriesAt blocks events j x) none (w.are_entries.each i x here)
+
+    told_is : told_after t [] (list_of_text {A = A} (list_text events ++ end)).items (list_of_text {A = A} (list_text events ++ end)).stop ≡ lines_told 2 entries
+    told_is =
+        ap (λ (l : Listing (Event A) ListCause). told_after t [] l.items l.stop) (list_is events end w.can_be_listed w.at_most ends) ∙
+        lines_are blocks t w.are_apart is [] 2 events entries w.are_entries.sizes at
+
+pub written_lists_replay : {A : Type 0} → WrittenListsReplay A
+written_lists_replay {A} blocks events entries t w is =
+    subst (λ (text : List ℕ). ReplayGives t text entries) (append-nil (list_text events)) (ended_lists_replay blocks events entries [] t w is (nothing_ends A (1 + length events)))
+
+-- ---- the frames that are sent can stand in a list
+
+-- a frame has octets, and no more than a line can write
+abbrev HasSize : {A : Type 0} → Frame A → Type 0
+HasSize f = (0 < length (written_frame f)) × (length (written_frame f) ≤ 2000)
+
+behind_some : (d a b : List ℕ) → length d ≡ 6 → 0 < length ((d ++ a) ++ b)
+behind_some [] a b e = absurd (omega arith)
+behind_some (x ∷ d) a b e = omega arith
+
+answer_size : {A : Type 0} (p : Setup A) (calls : List Call) (i : ℕ) (f : Frame A) → HasSizes p → AreAccepted p calls → IsAnswer p (trace_of_calls calls) i (Some f) → HasSize f
+answer_size {A} p calls i f held accepted w =
+    let at = carried w.gives in
+    let fit = (change_accepted p calls at.0 w.c w.change accepted at.2).fit w.k in
+    subst HasSize (sym w.is_frame) (
+      behind_some p.control.destination _ _ held.to,
+      elim (cases_lt 1600 (length (written_frame (frame p.control p.table (state_number p.first w.c) w.change w.k)))) [
+        | inl long ↦ absurd (fit (inr long))
+        | inr short ↦ omega arith
+      ],
+    )
+
+with_can : {A : Type 0} (B : Type 0) (m : ℕ) (request : Request) (a : Option (Frame A)) (rest : List (Sent A)) → m < 10 ^ 18 → ((f : Frame A) → a ≡ Some f → HasSize f) → SendsOctets (with_frame m request a rest) → (SendsOctets rest → CanBeListed (published_events {B = B} rest)) → CanBeListed (published_events {B = B} (with_frame m request a rest))
+with_can B m request None rest short size octets can = can octets
+with_can B m request (Some f) rest short size octets can = (((short, size f refl), octets.0), can octets.1)
+
+sent_can : {A : Type 0} (B : Type 0) (m : ℕ) (calls : List Call) (answers : List (Option (Frame A))) → m < 10 ^ 18 → MomentsAreShort calls → ((i : ℕ) (f : Frame A) → slice_get answers i ≡ Some (Some f) → HasSize f) → SendsOctets (sent_from m calls answers) → CanBeListed (published_events {B = B} (sent_from m calls answers))
+sent_can B m [] answers small short size octets = tt
+sent_can B m (c ∷ cs) [] small short size octets = tt
+sent_can {A} B m (c ∷ cs) (a ∷ answers) small short size octets =
+    let next : max m c.moment < 10 ^ 18 = let first : c.moment < 10 ^ 18 = short.0 in omega arith in
+    with_can B (max m c.moment) c.request a (sent_from (max m c.moment) cs answers) next (λ f e. size 0 f (ap (λ (o : Option (Frame A)). Some o) e)) octets
+    (sent_can B (max m c.moment) cs answers next short.1 (λ i f e. size (suc i) f e))
+
+-- there are as many events as frames
+events_counted : {A : Type 0} (B : Type 0) (sent : List (Sent A)) → length (published_events {B = B} sent) ≡ length sent
+events_counted B [] = refl
+events_counted B (s ∷ sent) = ap suc (events_counted B sent)
+
+-- the list of a publisher's whole run, ended so
+pub ended_runs_replay : {A B : Type 0} (p : Setup A) (block : Block B) (calls : List Call) (answers : List (Option (Frame A))) (end : List ℕ) (t : Text (Event B) ListCause) →
+    CanBeSent p block calls answers → IsReplayText (block ∷ []) t → EndsList B (1 + length (sent_from 0 calls answers)) end → ReplayGives t (list_text (published_events {B = B} (sent_from 0 calls answers)) ++ end) (one_entry_each (sent_from 0 calls answers))
+ended_runs_replay {A} {B} p block calls answers end t w is ends =
+    ended_lists_replay (block ∷ []) (published_events (sent_from 0 calls answers)) (one_entry_each (sent_from 0 calls answers)) end t (record {
+      are_apart = one_apart block;
+      can_be_listed = sent_can B 0 calls answers (omega arith) w.moments_are_short (λ i f at. answer_size p calls i f w.is_run.held w.is_run.accepted (w.is_run.are_answers.each i (Some f) at)) w.are_octets;
+      at_most = let few : length (sent_from 0 calls answers) < 1000000 = w.at_most in omega (arith, few, events_counted B (sent_from 0 calls answers));
+      are_entries = whole_runs_replay p block calls answers w.is_run (omega arith);
+    }) is
+    (subst (λ (n : ℕ). EndsList B (1 + n) end) (sym (events_counted B (sent_from 0 calls answers))) ends)
+
+pub published_lists_replay : {A B : Type 0} → PublishedListsReplay A B
+published_lists_replay {A} {B} p block calls answers t w is =
+    let sent = sent_from 0 calls answers in
+    subst (λ (text : List ℕ). ReplayGives t text (one_entry_each sent)) (append-nil (list_text (published_events {B = B} sent)))
+    (ended_runs_replay p block calls answers [] t w is (nothing_ends B (1 + length sent)))

@@ -1,0 +1,5 @@
+use Rattle.joint_laws.proofs.text_lemmas.WrittenLists.{published_lists_replay}
+use Rattle.joint_laws.proofs.texts.published_lists_replay.Goals as goal
+
+pub returns : goal.returns
+returns g c = published_lists_replay

@@ -1,0 +1,5 @@
+use Rattle.joint_laws.proofs.text_lemmas.WrittenLists.{written_lists_replay}
+use Rattle.joint_laws.proofs.texts.written_lists_replay.Goals as goal
+
+pub returns : goal.returns
+returns g c = written_lists_replay

@@ -1,0 +1,15 @@
+pub mod Stems
+pub mod PublishedList
+pub mod ExchangeLaws
+pub mod ListText
+pub mod OneText
+pub mod PublishedReplay
+pub mod ListedBlocks
+pub mod CaptureReplay
+pub mod ListLaws
+pub mod OneTextLaws
+pub mod PublishedLaws
+pub mod JsonText
+pub mod Given
+pub mod JsonLines
+pub mod LinesBack

@@ -1,0 +1,75 @@
+-- What a task over the events of a list or of a capture leaves, and the fault that is told.
+use Rattle.std.specs.Prelude.{◌≡◌, Bool, true, false, Option, option_map}
+use Rattle.std.specs.Global.{Global}
+use Rattle.list_core.specs.declared.event.Event.{Event}
+use Rattle.list_core.specs.declared.event_lines.EventLines.TheVariants.{First}
+use Rattle.list_core.specs.declared.line_rules.ItemFault.{ItemFault}
+use Rattle.list_core.specs.declared.list_fault.ListCause.{ListCause}
+use Rattle.list_core.specs.EventLine.{event_rules}
+use Rattle.list_core.specs.ListReader.{list_fault_of}
+use Rattle.capture_core.specs.declared.capture_fault.CaptureCause.{CaptureCause}
+use Rattle.capture_core.specs.declared.capture_fault.CaptureFault.{CaptureFault}
+use Rattle.frame_core.specs.SkipOther.{skip_other}
+use Rattle.text_core.specs.LineText.{capture_line, list_fault_line}
+use Rattle.object_core.specs.EventObject.{capture_fault_object, list_fault_object}
+use Rattle.engine_core.specs.declared.style.Style.{Style}
+use Rattle.engine_core.specs.CaptureRun.{capture_input}
+use Rattle.engine_core.specs.EventsText.{FaultText}
+use Rattle.engine_core.specs.Input.{Input}
+use Rattle.engine_core.specs.MadeRun.{made}
+use Rattle.engine_core.specs.Run.{list_input}
+use Rattle.exchange_engines.specs.declared.engines.replay.ReplayStop.{ReplayStop}
+use Rattle.exchange_engines.specs.declared.engines.replay.ReplayStop.TheVariants as stops
+use Rattle.words_core.specs.CommandLine.{Asked}
+use Rattle.task_engine.specs.declared.stop.Stop.{Stop}
+use Rattle.task_engine.specs.declared.stop.Stop.TheVariants as stop
+use Rattle.task_engine.specs.EventTasks.{Ended, TaskLeaves, left_of}
+
+-- ---- the inputs
+
+-- what is made of each event: where frames of other protocols are passed over, what is left of it
+abbrev pub made_by : Bool → Event Global → Event Global
+made_by true event = skip_other event
+made_by false event = event
+
+-- the events of a list, or what is made of each
+abbrev pub list_events : Bool → Input (Event Global) ListCause (ItemFault ListCause)
+list_events skips = made (made_by skips) (list_input event_rules First)
+
+-- those of a capture
+abbrev pub capture_events : Bool → Input (Event Global) CaptureCause CaptureFault
+capture_events skips = made (made_by skips) capture_input
+
+-- how the fault of a list is written
+abbrev pub list_last : FaultText (ItemFault ListCause)
+list_last = record { line = λ f. list_fault_line (list_fault_of f); object = λ f. list_fault_object (list_fault_of f) }
+
+-- that of a capture
+abbrev pub capture_last : FaultText CaptureFault
+capture_last = record { line = capture_line; object = capture_fault_object }
+
+-- ---- the fault that is told
+
+-- the fault of a list
+abbrev pub of_list : ItemFault ListCause → Stop
+of_list f = stop.List (list_fault_of f)
+
+-- why a task over events stopped, where this is the fault of its input
+abbrev pub of_stop : {F : Type 0} → (F → Stop) → ReplayStop F → Stop
+of_stop of (stops.Input f) = of f
+of_stop of (stops.SameBlockTwice position) = stop.SameBlockTwice position
+
+-- what is told is why the task ended so, if it ended by something
+abbrev pub Tells : {F : Type 0} → (F → Stop) → (Option F → Type 0) → Option Stop → Type 0
+Tells {F} of EndsBy told = (by : Option F) × EndsBy by × (told ≡ option_map of by)
+
+-- ---- what is left
+
+-- what a task over an input of events leaves in a style, and what is told
+abbrev pub EventsTell : {C F : Type 0} → (F → Stop) → Style → Asked → Input (Event Global) C F → FaultText F → Ended → Option Stop → Type 0
+EventsTell of style asked input last end told = Tells (of_stop of) (λ by. TaskLeaves style asked (left_of style input last end) end.ending by end.old end.new) told
+
+-- the same of a capture or of a list, where frames of other protocols are passed over or are not
+abbrev pub InputTells : Bool → Bool → Style → Asked → Ended → Option Stop → Type 0
+InputTells true skips style asked end told = EventsTell stop.Packet style asked (capture_events skips) capture_last end told
+InputTells false skips style asked end told = EventsTell of_list style asked (list_events skips) list_last end told
