@@ -1,2 +1,3 @@
 pub mod EventTaskLemmas
 pub mod PassedLemmas
+pub mod AsBefore
