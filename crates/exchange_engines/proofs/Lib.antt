@@ -1,5 +1,4 @@
 pub mod ReplayLemmas
-pub mod ListedReplays
 pub mod WatchLemmas
 pub mod PublishLemmas
 pub mod NonEmpty

@@ -12,9 +12,9 @@ use Rattle.subscribe_core.proofs.Readings.{is_read}
 use Rattle.subscribe_core.proofs.Runs.{entries_step, fresh_stands, stands_step}
 use Rattle.engine_core.specs.computed.EventStep.{EventTaken}
 use Rattle.object_core.specs.declared.counted.Form.{Form}
-use Rattle.exchange_engines.specs.ReplayText.{AreSaid, events_of}
+use Rattle.exchange_engines.specs.ReplayText.{AreSaid, IsReplayOf, IsReplayText, events_of}
 use Rattle.exchange_engines.specs.computed.ReplayAgrees.{none_said, said_allowed}
-use Rattle.exchange_engines.specs.computed.ReplayStep.{IsSaid, kept_after, replay_allows, replay_says, state_after_list}
+use Rattle.exchange_engines.specs.computed.ReplayStep.{IsSaid, kept_after, replay_allows, replay_event, replay_says, replay_text, state_after_list}
 
 state_push : {A : Type 0} (s : State A) (es : List (Event A)) (e : Event A) → state_after_list s (es ++ e ∷ []) ≡ step_state (state_after_list s es) (reading_of e)
 state_push s [] e = refl
@@ -63,6 +63,17 @@ replay_said blocks = λ before e.
     let s = kept_after blocks before in
     subst (λ (bs : List (Block _)). AreEntriesAt bs (events_of before ++ e.1 ∷ []) (length (events_of before)) (step_entries s (reading_of e.1))) k.of_blocks
     (entries_step (events_of before) e.1 (reading_of e.1) s (is_read e.1) k.stands)
+
+-- what is computed of events is that of the entries of all of them
+pub replay_of : {A : Type 0} (blocks : List (Block A)) → IsReplayOf blocks (replay_event blocks)
+replay_of blocks = λ before e. record {
+  entries = replay_says blocks before e;
+  are_entries = replay_said blocks before e;
+  lines = refl;
+}
+
+pub replay_is : {A : Type 0} (blocks : List (Block A)) → IsReplayText blocks (replay_text blocks)
+replay_is blocks = record { first = refl; each_item = replay_of blocks; last = λ f. refl }
 
 -- where nothing is written of an event, it has no entry
 pub no_entries : {A : Type 0} (form : Form) (s : State A) (before : List (ℕ × Event A)) (n : ℕ) (e : Event A) (written : List ℕ × Bool) → s ≡ kept_after s.blocks before →

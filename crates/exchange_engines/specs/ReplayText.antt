@@ -20,7 +20,7 @@ use Rattle.engine_core.specs.EngineText.{Text, exactly}
 use Rattle.engine_core.specs.declared.stopped.Stopped.{Stopped}
 use Rattle.engine_core.specs.declared.style.Style.{Style}
 use Rattle.engine_core.specs.declared.style.Style.TheVariants.{Lines}
-use Rattle.engine_core.specs.EventsText.{EventAllows, FaultText, line_in, over_in}
+use Rattle.engine_core.specs.EventsText.{EventAllows, EventText, FaultText, line_in, over_in}
 use Rattle.engine_core.specs.Input.{Reader}
 use Rattle.engine_core.specs.Run.{LeavesRefused, list_input}
 use Rattle.engine_core.specs.RunOver.{IsUntouched, Leaves, OfKind, RunsOver, stopped_at}
@@ -41,6 +41,10 @@ pub record ReplaysEvent {A : Type 0} (blocks : List (Block A)) (before : List (�
   pub entries : List (Entry A)
   pub are_entries : AreEntriesAt blocks (events_of before ++ e.1 ∷ []) (length (events_of before)) entries
   pub lines : written ≡ Ok (entry_lines e.0 entries, false)
+
+-- what is written of events that a subscriber of these blocks is handed, whatever input they come from
+abbrev pub IsReplayOf : {A : Type 0} → List (Block A) → EventText A → Type 0
+IsReplayOf {A} blocks text = (before : List (ℕ × Event A)) (e : ℕ × Event A) → ReplaysEvent blocks before e (Ok (text before e))
 
 -- the entries of an event after others
 abbrev pub Says : Type 0 → Type 0

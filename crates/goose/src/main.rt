@@ -16,10 +16,8 @@ ghost use Rattle.words_core.specs.RequestLine.{MayRefuseRequest, request_of_word
 
 use crate::console::Console;
 use crate::input::{BLOCK, Input, Seen};
-use crate::messages::advice::Advised;
 use crate::messages::block_fields::block_fault;
 use crate::messages::failure::Failure;
-use crate::messages::head::{Intake, advice_by_head};
 use crate::messages::passed::passed_frames;
 use crate::messages::unheard::Unheard;
 use crate::messages::unjudged::unjudged_streams;
@@ -33,7 +31,7 @@ use std::alloc::{AllocError, Global};
 use std::io::{BufReader, ErrorKind, IsTerminal};
 use std::process::ExitCode;
 use std::{env, io};
-use task_engine::{Notes, Performed, Told, Unjudged, perform};
+use task_engine::{Intake, Performed, Told, Unjudged, advice_by_head, perform_request};
 use words_core::{Options, Request, Task, WordsError, read_request};
 
 // What is not inlined here needs much of the stack, which is free again when a task runs.
@@ -154,7 +152,7 @@ fn say_stop(rt: &HostRuntime, command: &str, told: Told, intake: Intake, head: &
     let Told { stop, advice } = told;
     let _ = eprintln!(Console::of(rt); "goose {command}: {stop}");
     if let Some(advice) = advice_by_head(intake, head).or(advice) {
-        let _ = eprintln!(Console::of(rt); "{}", Advised(advice));
+        let _ = eprintln!(Console::of(rt); "{advice}");
     }
 }
 
@@ -239,6 +237,7 @@ fn say_unjudged(rt: &HostRuntime, command: &str, unjudged: &Unjudged<Global>) {
 fn run(rt: &HostRuntime, request: Request, words: &[&str]) -> u8
     requires { HasPeriod (asked_by request.task) }
 {
+    let Request { task, options } = request;
     let Ok(output) = Output::new(rt.alloc(), Patient::new(rt, io::writer(rt))) else {
         return status(&Ending::Memory);
     };
@@ -249,24 +248,24 @@ fn run(rt: &HostRuntime, request: Request, words: &[&str]) -> u8
     let Ok(input) = BufReader::with_capacity(rt.alloc(), BLOCK, input) else {
         return status(&Ending::Memory);
     };
-    let command = request.task.name();
-    let intake = intake_of(&request.task, request.options);
+    let command = task.name();
+    let intake = intake_of(&task, options);
     say_awaited(rt, command, intake);
-    let mut notes = Notes {
-        heard: flags_for(rt, &request.task),
-        unjudged: Unjudged::new(rt.alloc()),
-    };
+    let mut heard = flags_for(rt, &task);
+    let mut unjudged = Unjudged::new(rt.alloc());
     let mut writer = ToWrite::new(&output);
     let Performed {
         ending,
         told,
         passed,
         reader: _,
-    } = perform(
+    } = perform_request(
         rt.alloc(),
-        request,
+        task,
+        options,
         FromRead::new(input),
-        &mut notes,
+        heard.as_mut_slice(),
+        &mut unjudged,
         &mut writer,
     );
     let is_written = ending != Ending::WriteFault && output.hand_on().is_ok();
@@ -278,10 +277,10 @@ fn run(rt: &HostRuntime, request: Request, words: &[&str]) -> u8
     if let Some(passed) = &passed {
         say_passed(rt, command, passed);
     }
-    say_unjudged(rt, command, &notes.unjudged);
+    say_unjudged(rt, command, &unjudged);
     match told {
         Some(told) => say_stop(rt, command, told, intake, seen.into_head().as_slice()),
-        None if ending == Ending::Done => say_unheard(rt, words, notes.heard.as_slice()),
+        None if ending == Ending::Done => say_unheard(rt, words, heard.as_slice()),
         None => {}
     }
     status(&ending)

@@ -1,10 +1,8 @@
-//! What standard error says to a person of control blocks, of devices, of frames that were passed over, and of what to do about an input.
+//! What standard error says to a person of control blocks, of devices and of frames that were passed over.
 //! No program reads it, and no contract speaks of it: the tests compare all.
 
-pub mod advice;
 pub mod block_fields;
 pub mod failure;
-pub mod head;
 pub mod passed;
 pub mod unheard;
 pub mod unjudged;

@@ -69,7 +69,6 @@ impl<A: Allocator, F: InputFault + LastLine + LastObject> Engine<A, F> for Handi
 /// where that is given; else they are counted alone, and noted. Hands out how that ended, the fault by which it did, and the reader.
 ///
 /// A frame, or an end, that tells a loss is a finding. Behind a fault of the input nothing is told of the end.
-#[inline(always)]
 pub fn losses_over<
     A: Allocator + Copy,
     F: InputFault + LastLine + LastObject + Drop,

@@ -1,6 +1,6 @@
 -- What a task over a reader of events leaves of the input that it reads.
-use Rattle.std.proofs.Common.{Option, Some, None, Ok, Err, ◌≡◌, ℕ, Bool, true, false, List, [], inl, inr, sym, refl, subst}
-use Rattle.std.specs.Prelude.{option_map}
+use Rattle.std.proofs.Common.{Option, Some, None, Ok, Err, ◌≡◌, ℕ, Bool, true, false, List, [], inl, inr, ap, sym, ◌∙◌, refl, subst}
+use Rattle.std.specs.Prelude.{◌&&◌, option_map}
 use Rattle.std.specs.Global.{Global}
 use Rattle.list_core.specs.declared.device.InputEnd.{InputEnd}
 use Rattle.list_core.specs.declared.device.InputEnd.TheVariants.{Failed, Open}
@@ -22,7 +22,7 @@ use Rattle.engine_core.specs.declared.ending.Ending.{Ending}
 use Rattle.engine_core.specs.declared.ending.Ending.TheVariants.{ReadFault}
 use Rattle.engine_core.specs.declared.stopped.Stopped.{Stopped}
 use Rattle.engine_core.specs.declared.style.Style.{Style}
-use Rattle.engine_core.specs.CaptureRun.{capture_faults}
+use Rattle.engine_core.specs.CaptureRun.{capture_faults, capture_input}
 use Rattle.engine_core.specs.EventsText.{EventAllows, FaultText, over_in}
 use Rattle.engine_core.specs.Input.{Faults, GaveThen, Input, IsRead, Reader}
 use Rattle.engine_core.specs.MadeRun.{answer_made, made}
@@ -33,15 +33,15 @@ use Rattle.engine_core.proofs.InputRuns.{GivenSo, input_run, none_given}
 use Rattle.engine_core.proofs.ListRuns as lists
 use Rattle.engine_core.proofs.ReadFaults.{Blames, capture_blames, list_blames, source_failed}
 use Rattle.exchange_engines.specs.declared.engines.replay.ReplayStop.{ReplayStop}
-use Rattle.exchange_engines.specs.declared.engines.replay.ReplayStop.TheVariants as why
-use Rattle.words_core.specs.CommandLine.{Asked, losses, replay}
+use Rattle.words_core.specs.CommandLine.{Asked, check, import, list_blocks, losses, publish, replay, rewrite, show, takes_options, watch}
 use Rattle.words_core.specs.declared.option_words.Options.{Options}
 use Rattle.loss_engine.proofs.LossRuns.{losses_failed, losses_run}
 use Rattle.task_engine.specs.declared.stop.Stop.{Stop}
 use Rattle.task_engine.specs.declared.stop.Stop.TheVariants as stop
 use Rattle.task_engine.specs.EventTasks.{Ended, Left, OverWrites, StopsBy, TaskLeaves, TextLeft, allowed_by, ended, left_of, left_over, manner}
 use Rattle.task_engine.specs.InputText.{EventsTell, InputTells, capture_events, capture_last, list_events, list_last, made_by, of_list, of_stop}
-use Rattle.task_engine.specs.RequestText.{EventsWrite, style_of}
+use Rattle.task_engine.specs.RequestText.{EventsWrite, RequestWrites, WritesBy, has_option, style_of}
+use Rattle.task_engine.specs.TaskText.{TaskWrites}
 
 -- what is left so, a task leaves so too
 module _ {F : Type 0} (style : Style) (a : Left F) (b : List ℕ → Left F) (first last : Option (List ℕ)) (ending : Ending) (why : Option (ReplayStop F)) (old new : Option (List ℕ))
@@ -54,6 +54,10 @@ module _ {F : Type 0} (style : Style) (a : Left F) (b : List ℕ → Left F) (fi
       (r.0, r.1, record { fault = l.fault; by = l.by; is_left = record { by = l.is_left.by; is = l.is_left.is; is_left = r.2 } })
 
   task_left : (asked : Asked) → TaskLeaves style asked a ending why old new → GivenSo first last (λ given. TaskLeaves style asked (b given) ending why old new)
+  task_left show l = text_left show l
+  task_left check l = text_left check l
+  task_left rewrite l = elim l [ ]
+  task_left list_blocks l = text_left list_blocks l
   task_left (replay blocks) (inl twice) =
       let u = untouched twice.0.untouched in
       ([], u.0, inl (record { position = twice.0.position; is_twice = twice.0.is_twice; untouched = u.1; written = twice.0.written }, twice.1))
@@ -64,15 +68,21 @@ module _ {F : Type 0} (style : Style) (a : Left F) (b : List ℕ → Left F) (fi
   task_left (replay blocks) (inr (inr ran)) =
       let r = text_left (replay blocks) (record { fault = ran.fault; by = ran.by; is_left = ran.is_left }) in
       (r.0, r.1, inr (inr (record { are_apart = ran.are_apart; fault = r.2.fault; by = r.2.by; is_left = r.2.is_left })))
+  task_left publish l = elim l [ ]
+  task_left (watch period id) l = text_left (watch period id) l
+  task_left import l = elim l [ ]
   task_left (losses period) l =
       let r = losses_left l.fault period l.is_left in
       (r.0, r.1, record { fault = l.fault; by = l.by; is_left = r.2 })
-  task_left asked l = text_left asked l
 
 -- what follows where a text is left, where losses are, and where nothing was read
 module _ {F : Type 0} {P : Type 0} (style : Style) (left : Left F) (ending : Ending) (why : Option (ReplayStop F)) (old new : Option (List ℕ))
     (text : (fault : Option F) (allows : Form → EventAllows Global) → left.text fault allows → P) (losses_left : (fault : Option F) (period : Option ℕ) → left.losses fault period → P) (untouched : left.untouched → (ending ≡ ReadFault → ⊥) → P) where
   pub task_any : (asked : Asked) → TaskLeaves style asked left ending why old new → P
+  task_any show l = text l.fault (allowed_by show l.is_left.by) l.is_left.is_left
+  task_any check l = text l.fault (allowed_by check l.is_left.by) l.is_left.is_left
+  task_any rewrite l = elim l [ ]
+  task_any list_blocks l = text l.fault (allowed_by list_blocks l.is_left.by) l.is_left.is_left
   task_any (replay blocks) (inl twice) = untouched twice.0.untouched (λ e. elim twice.0.written [
     | inl (inl w) ↦ let is = w.0 in cc
     | inl (inr w) ↦ let is = w.0 in cc
@@ -80,8 +90,10 @@ module _ {F : Type 0} {P : Type 0} (style : Style) (left : Left F) (ending : End
   ])
   task_any (replay blocks) (inr (inl none)) = untouched none.0.untouched (λ e. let is = none.0.wants_memory in cc)
   task_any (replay blocks) (inr (inr ran)) = text ran.fault (allowed_by (replay blocks) ran.is_left.by) ran.is_left.is_left
+  task_any publish l = elim l [ ]
+  task_any (watch period id) l = text l.fault (allowed_by (watch period id) l.is_left.by) l.is_left.is_left
+  task_any import l = elim l [ ]
   task_any (losses period) l = losses_left l.fault period l.is_left
-  task_any asked l = text l.fault (allowed_by asked l.is_left.by) l.is_left.is_left
 
 -- ---- a reader of an input
 
@@ -151,6 +163,12 @@ list_tells skips state reader same through style asked start stopped old new is 
     (lists.made_read event_rules (made_by skips) state reader through start stopped.reader is no_line no_octet)) style asked w in
     (r.0, r.1, (stopped.fault, r.2, refl))
 
+pub capture_failed : (skips : Bool) (style : Style) (asked : Asked) (end : Ended) (told : Option Stop) → InputTells true skips style asked end told → end.ending ≡ ReadFault → end.source ≡ Failed
+capture_failed skips style asked end told t = events_failed stop.Packet style asked (capture_events skips) capture_last end told (capture_blames Global) t
+
+pub list_failed : (skips : Bool) (style : Style) (asked : Asked) (end : Ended) (told : Option Stop) → InputTells false skips style asked end told → end.ending ≡ ReadFault → end.source ≡ Failed
+list_failed skips style asked end told t = events_failed of_list style asked (list_events skips) list_last end told (list_blames event_rules First) t
+
 -- ---- options
 
 -- what is left by options, whose style, input and frames passed over are these
@@ -160,12 +178,18 @@ by_options options style is_capture skips asked end told s i k w =
     subst (λ (x : Style). InputTells options.is_capture options.skips_other x asked end told) s
     (subst (λ (b : Bool). InputTells b options.skips_other style asked end told) (sym i) (subst (λ (b : Bool). InputTells is_capture b style asked end told) (sym k) w))
 
--- it ends by a read fault only where the source of its input failed
-pub input_failed : (is_capture skips : Bool) (style : Style) (asked : Asked) (end : Ended) (told : Option Stop) → InputTells is_capture skips style asked end told → end.ending ≡ ReadFault → end.source ≡ Failed
-input_failed true skips style asked end told t = events_failed stop.Packet style asked (capture_events skips) capture_last end told (capture_blames Global) t
-input_failed false skips style asked end told t = events_failed of_list style asked (list_events skips) list_last end told (list_blames event_rules First) t
+-- no option is given
+no_option : (takes given : Bool) → false ≡ given → false ≡ takes && given
+no_option true given h = h
+no_option false given h = refl
 
--- the fault of the input of a run that stops by nothing else is told
-pub input_told : {F : Type 0} (of : F → Stop) (fault : Option F) → option_map (of_stop of) (option_map why.Input fault) ≡ option_map of fault
-input_told of None = refl
-input_told of (Some f) = refl
+pub written_without : (options : Options) (asked : Asked) (end : Ended) (told : Option Stop) → false ≡ has_option options → TaskWrites asked end told → RequestWrites options asked end told
+written_without options asked end told none w = subst (λ (b : Bool). WritesBy b options asked end told) (no_option (takes_options asked) (has_option options) none) w
+
+-- some option is given
+some_option : (takes given : Bool) → true ≡ takes → true ≡ given → true ≡ takes && given
+some_option true given t h = h
+some_option false given t h = t
+
+pub written_by : (options : Options) (asked : Asked) (end : Ended) (told : Option Stop) → true ≡ takes_options asked → true ≡ has_option options → EventsWrite options asked end told → RequestWrites options asked end told
+written_by options asked end told takes some w = subst (λ (b : Bool). WritesBy b options asked end told) (some_option (takes_options asked) (has_option options) takes some) w

@@ -1,3 +1,2 @@
 pub mod EventTaskLemmas
 pub mod PassedLemmas
-pub mod AsBefore

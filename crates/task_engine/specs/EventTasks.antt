@@ -22,34 +22,43 @@ use Rattle.exchange_engines.specs.declared.engines.replay.ReplayStop.TheVariants
 use Rattle.loss_engine.specs.LossText.{Manner, written_pieces}
 use Rattle.loss_engine.specs.LossWants.{WritesLosses}
 use Rattle.loss_engine.specs.computed.LossesOver.{LossesOver}
-use Rattle.words_core.specs.CommandLine.{Asked, show, check, list_blocks, losses, replay, watch}
+use Rattle.words_core.specs.CommandLine.{Asked, show, check, rewrite, list_blocks, publish, import, losses, replay, watch}
 
 -- what settles what a task writes of events, beside the form: nothing, a text for each form, or the entries of a subscriber; `losses` writes piece by piece, and a task over something else nothing of events
 abbrev pub Settles : Asked → Type 0
 Settles show = Unit {0}
 Settles check = Unit {0}
+Settles rewrite = ⊥
 Settles list_blocks = Form → EventText Global
 Settles (replay blocks) = Says Global
+Settles publish = ⊥
 Settles (watch period id) = Form → EventText Global
-Settles _ = ⊥
+Settles import = ⊥
+Settles (losses period) = ⊥
 
 -- it is that of this task
 abbrev pub IsOf : (asked : Asked) → Settles asked → Type 0
 IsOf show it = Unit {0}
 IsOf check it = Unit {0}
+IsOf rewrite it = ⊥
 IsOf list_blocks texts = AreBlocksTexts texts
 IsOf (replay blocks) says = AreSaid blocks says
+IsOf publish it = ⊥
 IsOf (watch period id) texts = AreWatchTexts period id texts
-IsOf _ it = ⊥
+IsOf import it = ⊥
+IsOf (losses period) it = ⊥
 
 -- what the task may write of an event in each form
 abbrev pub allowed_by : (asked : Asked) → Settles asked → Form → EventAllows Global
 allowed_by show it form = show_allows form
 allowed_by check it form = exactly_event (check_event_in form)
+allowed_by rewrite it form = absurd it
 allowed_by list_blocks texts form = exactly_each texts form
 allowed_by (replay blocks) says form = entries_in blocks says form
+allowed_by publish it form = absurd it
 allowed_by (watch period id) texts form = exactly_each texts form
-allowed_by _ it form = absurd it
+allowed_by import it form = absurd it
+allowed_by (losses period) it form = absurd it
 
 -- ---- what is left
 
@@ -71,9 +80,15 @@ TextLeft asked left fault = OfKind (IsOf asked) (λ it. left.text fault (allowed
 
 -- what a task over events leaves in a style, and why it stops; a replay may be refused its blocks
 abbrev pub TaskLeaves : {F : Type 0} → Style → Asked → Left F → Ending → Option (ReplayStop F) → Option (List ℕ) → Option (List ℕ) → Type 0
+TaskLeaves style show left ending stop old new = StopsBy (TextLeft show left) stop
+TaskLeaves style check left ending stop old new = StopsBy (TextLeft check left) stop
+TaskLeaves style rewrite left ending stop old new = ⊥
+TaskLeaves style list_blocks left ending stop old new = StopsBy (TextLeft list_blocks left) stop
 TaskLeaves style (replay blocks) left ending stop old new = ReplaysSo left.untouched style blocks (TextLeft (replay blocks) left) ending stop old new
+TaskLeaves style publish left ending stop old new = ⊥
+TaskLeaves style (watch period id) left ending stop old new = StopsBy (TextLeft (watch period id) left) stop
+TaskLeaves style import left ending stop old new = ⊥
 TaskLeaves style (losses period) left ending stop old new = StopsBy (λ fault. left.losses fault period) stop
-TaskLeaves style asked left ending stop old new = StopsBy (TextLeft asked left) stop
 
 -- how losses are told in a style
 abbrev pub manner : {F : Type 0} → Style → FaultText F → Option ℕ → Manner F

@@ -1,31 +1,17 @@
--- What a request leaves, how it ends, and the fault that is told.
-use Rattle.std.specs.Prelude.{Bool, true, false, Option}
-use Rattle.std.specs.Global.{Global}
-use Rattle.list_core.specs.declared.device.InputEnd.TheVariants.{Open}
-use Rattle.list_core.specs.declared.event_lines.EventLines.TheVariants as events
-use Rattle.list_core.specs.declared.line_rules.ItemFault.{ItemFault}
-use Rattle.list_core.specs.EventLine.{event_rules}
-use Rattle.list_core.specs.Items.{Rules}
-use Rattle.script_core.specs.declared.script.ScriptLines.TheVariants as scripts
-use Rattle.script_core.specs.Script.{script_rules}
+-- What each task leaves by its options, how it ends, and the fault that is told.
+use Rattle.std.specs.Prelude.{◌&&◌, ◌||◌, Bool, true, false, not, Option}
 use Rattle.engine_core.specs.declared.style.Style.{Style}
 use Rattle.engine_core.specs.declared.style.Style.TheVariants as styles
-use Rattle.engine_core.specs.EngineText.{Text, exactly}
-use Rattle.engine_core.specs.Run.{list_input}
-use Rattle.engine_core.specs.RunOver.{Leaves, OfKind}
 use Rattle.object_core.specs.declared.counted.Counted.TheVariants.{Line, Packet}
 use Rattle.object_core.specs.declared.counted.Form.TheVariants as forms
-use Rattle.frame_engines.specs.RewriteText.{rewrite_text}
-use Rattle.frame_engines.specs.ImportText.{ImportsTo}
-use Rattle.exchange_engines.specs.PublishText.{IsPublishText}
-use Rattle.words_core.specs.CommandLine.{Asked, rewrite, publish, import}
+use Rattle.words_core.specs.CommandLine.{Asked, takes_options}
 use Rattle.words_core.specs.declared.option_words.Writing.{Writing}
 use Rattle.words_core.specs.declared.option_words.Writing.TheVariants as writes
 use Rattle.words_core.specs.declared.option_words.Options.{Options}
 use Rattle.task_engine.specs.declared.stop.Stop.{Stop}
-use Rattle.task_engine.specs.declared.stop.Stop.TheVariants as stop
 use Rattle.task_engine.specs.EventTasks.{Ended}
-use Rattle.task_engine.specs.InputText.{InputTells, Tells, of_list}
+use Rattle.task_engine.specs.InputText.{InputTells}
+use Rattle.task_engine.specs.TaskText.{TaskWrites}
 
 -- the style of a way to write, where an event's number is that of its packet or of its line
 abbrev pub style_by : Bool → Writing → Style
@@ -38,17 +24,25 @@ style_by false writes.Objects = styles.Lines (forms.Object Line)
 abbrev pub style_of : Options → Style
 style_of options = style_by options.is_capture options.writes
 
+-- lines of text are asked for, as without options
+abbrev pub is_plain : Writing → Bool
+is_plain writes.Lines = true
+is_plain writes.Dated = false
+is_plain writes.Objects = false
+
+-- some option is given
+abbrev pub has_option : Options → Bool
+has_option options = options.is_capture || (options.skips_other || not (is_plain options.writes))
+
 -- what a task over events leaves by these options, and what is told
 abbrev pub EventsWrite : Options → Asked → Ended → Option Stop → Type 0
 EventsWrite options asked end told = InputTells options.is_capture options.skips_other (style_of options) asked end told
 
--- a run over a list leaves this text, and ended by this fault
-abbrev pub LeavesText : {S X C : Type 0} → Rules S X C → S → Text X C → Ended → Option (ItemFault C) → Type 0
-LeavesText r s t end fault = Leaves (list_input r s) (exactly t) end.ending fault end.source end.read end.old end.new
+-- that, where some option is given; else what it leaves of a list
+abbrev pub WritesBy : Bool → Options → Asked → Ended → Option Stop → Type 0
+WritesBy true options asked end told = EventsWrite options asked end told
+WritesBy false options asked end told = TaskWrites asked end told
 
--- What a request leaves of an input that its reader gave: what the task's own engine writes, and no other's, by its options, which those over something else than events have not. The fault that is told is the one by which it ended, if it ended by one.
+-- what a task leaves of an input that its reader gave, by its options, and what is told: those over something else than events have none
 abbrev pub RequestWrites : Options → Asked → Ended → Option Stop → Type 0
-RequestWrites options rewrite end told = Tells of_list (LeavesText (event_rules {A = Global}) events.First rewrite_text end) told
-RequestWrites options publish end told = Tells stop.Script (λ fault. OfKind (IsPublishText {A = Global}) (λ t. LeavesText script_rules scripts.First t end fault)) told
-RequestWrites options import end told = Tells stop.Capture (ImportsTo Open end.ending end.source end.read end.old end.new) told
-RequestWrites options asked end told = EventsWrite options asked end told
+RequestWrites options asked end told = WritesBy (takes_options asked && has_option options) options asked end told

@@ -42,7 +42,7 @@ pub struct Shows;
 impl EventTask for Shows {
     ghost asked = { λ _. show };
 
-    #[inline(always)]
+    #[inline(never)]
     fn over<
         F: InputFault + LastLine + LastObject + Drop,
         I: ReadItems<Global, Item = Event<Global>, Fault = F>,
@@ -59,7 +59,7 @@ pub struct Checks;
 impl EventTask for Checks {
     ghost asked = { λ _. check };
 
-    #[inline(always)]
+    #[inline(never)]
     fn over<
         F: InputFault + LastLine + LastObject + Drop,
         I: ReadItems<Global, Item = Event<Global>, Fault = F>,
@@ -76,7 +76,7 @@ pub struct ListsBlocks;
 impl EventTask for ListsBlocks {
     ghost asked = { λ _. list_blocks };
 
-    #[inline(always)]
+    #[inline(never)]
     fn over<
         F: InputFault + LastLine + LastObject + Drop,
         I: ReadItems<Global, Item = Event<Global>, Fault = F>,
@@ -98,7 +98,7 @@ pub struct Replays<'a> {
 impl EventTask for Replays<'_> {
     ghost asked = { λ s. replay s.blocks.items };
 
-    #[inline(always)]
+    #[inline(never)]
     fn over<
         F: InputFault + LastLine + LastObject + Drop,
         I: ReadItems<Global, Item = Event<Global>, Fault = F>,
@@ -122,7 +122,7 @@ pub struct Watches<'a> {
 impl EventTask for Watches<'_> {
     ghost asked = { λ s. watch s.period s.id.now };
 
-    #[inline(always)]
+    #[inline(never)]
     fn over<
         F: InputFault + LastLine + LastObject + Drop,
         I: ReadItems<Global, Item = Event<Global>, Fault = F>,
@@ -146,7 +146,7 @@ pub struct TellsLosses<'a> {
 impl EventTask for TellsLosses<'_> {
     ghost asked = { λ s. losses s.period };
 
-    #[inline(always)]
+    #[inline(never)]
     fn over<
         F: InputFault + LastLine + LastObject + Drop,
         I: ReadItems<Global, Item = Event<Global>, Fault = F>,

@@ -1,5 +1,5 @@
-//! Tasks over events by options: over the events of a list or of a capture, or over what is left of them where frames of other protocols
-//! are passed over, in a style. Each reader of events has a function of its own, so that it takes its room on the stack only where it is read.
+//! Tasks by options: over the events of a list or of a capture, or over what is left of them where frames of other protocols are
+//! passed over, in a style. Each reader of events has a function of its own, so that it takes its room on the stack only where it is read.
 ghost use Rattle.std.specs.Prelude.{◌≡◌, ℕ, List, false, true};
 ghost use Rattle.list_core.specs.declared.device.InputEnd.{InputEnd};
 ghost use Rattle.list_core.specs.Device.{GivesOctets};
@@ -11,7 +11,9 @@ ghost use Rattle.task_engine.specs.InputText.{InputTells};
 ghost use Rattle.task_engine.specs.RequestText.{EventsWrite, style_of};
 
 use crate::event_tasks::EventTask;
-use crate::performed::{Performed, of_list, told_of_events, told_of_packets};
+use crate::performed::{
+    Performed, of_packets, of_passed_events, of_passed_packets, of_styled_events,
+};
 use capture_core::PacketReader;
 use engine_core::Style;
 use frame_core::SkipOther;
@@ -33,10 +35,11 @@ fn over_list<T: EventTask, R: Source, W: Sink>(
     ensures text { (given : List ℕ) × GivesOctets (R.left reader) (R.left result.reader) given
         × InputTells false false style (T.asked task) (ended result.ending (R.ending result.reader) given (W.contents writer.old) (W.contents writer.new)) (stop_of result.told) }
     ensures passed { PassesWhere false false result.ending (R.ending result.reader) (R.left reader) (R.left result.reader) result.passed }
+    ensures read_fault { result.ending ≡ Ending.ReadFault → R.ending result.reader ≡ InputEnd.Failed }
     ensures fault { W.failed writer.new ≡ is_write_fault result.ending }
 {
     let events = ItemReader::new(reader, EventLines::First);
-    of_list(task.over(alloc, style, events, writer))
+    of_styled_events(task.over(alloc, style, events, writer))
 }
 
 #[inline(never)]
@@ -52,16 +55,10 @@ fn over_capture<T: EventTask, R: Source, W: Sink>(
     ensures text { (given : List ℕ) × GivesOctets (R.left reader) (R.left result.reader) given
         × InputTells true false style (T.asked task) (ended result.ending (R.ending result.reader) given (W.contents writer.old) (W.contents writer.new)) (stop_of result.told) }
     ensures passed { PassesWhere false true result.ending (R.ending result.reader) (R.left reader) (R.left result.reader) result.passed }
+    ensures read_fault { result.ending ≡ Ending.ReadFault → R.ending result.reader ≡ InputEnd.Failed }
     ensures fault { W.failed writer.new ≡ is_write_fault result.ending }
 {
-    let packets = PacketReader::new(alloc, reader);
-    let stopped = task.over(alloc, style, packets, writer);
-    Performed {
-        ending: stopped.ending,
-        told: told_of_packets(stopped.fault),
-        passed: None,
-        reader: stopped.reader.into_reader(),
-    }
+    of_packets(task.over(alloc, style, PacketReader::new(alloc, reader), writer))
 }
 
 #[inline(never)]
@@ -77,17 +74,11 @@ fn over_passed_capture<T: EventTask, R: Source, W: Sink>(
     ensures text { (given : List ℕ) × GivesOctets (R.left reader) (R.left result.reader) given
         × InputTells true true style (T.asked task) (ended result.ending (R.ending result.reader) given (W.contents writer.old) (W.contents writer.new)) (stop_of result.told) }
     ensures passed { PassesWhere true true result.ending (R.ending result.reader) (R.left reader) (R.left result.reader) result.passed }
+    ensures read_fault { result.ending ≡ Ending.ReadFault → R.ending result.reader ≡ InputEnd.Failed }
     ensures fault { W.failed writer.new ≡ is_write_fault result.ending }
 {
     let packets = SkipOther::new(PacketReader::new(alloc, reader));
-    let stopped = task.over(alloc, style, packets, writer);
-    let (packets, passed) = stopped.reader.into_parts();
-    Performed {
-        ending: stopped.ending,
-        told: told_of_packets(stopped.fault),
-        passed: Some(passed),
-        reader: packets.into_reader(),
-    }
+    of_passed_packets(task.over(alloc, style, packets, writer))
 }
 
 #[inline(never)]
@@ -103,18 +94,11 @@ fn over_passed_list<T: EventTask, R: Source, W: Sink>(
     ensures text { (given : List ℕ) × GivesOctets (R.left reader) (R.left result.reader) given
         × InputTells false true style (T.asked task) (ended result.ending (R.ending result.reader) given (W.contents writer.old) (W.contents writer.new)) (stop_of result.told) }
     ensures passed { PassesWhere true false result.ending (R.ending result.reader) (R.left reader) (R.left result.reader) result.passed }
+    ensures read_fault { result.ending ≡ Ending.ReadFault → R.ending result.reader ≡ InputEnd.Failed }
     ensures fault { W.failed writer.new ≡ is_write_fault result.ending }
 {
     let events = SkipOther::new(ItemReader::new(reader, EventLines::First));
-    let stopped = task.over(alloc, style, events, writer);
-    let (events, passed) = stopped.reader.into_parts();
-    let told = told_of_events(stopped.fault, &events);
-    Performed {
-        ending: stopped.ending,
-        told,
-        passed: Some(passed),
-        reader: events.into_reader(),
-    }
+    of_passed_events(task.over(alloc, style, events, writer))
 }
 
 // The style that options ask for.
@@ -129,7 +113,7 @@ fn style_of(options: Options) -> Style
     }
 }
 
-/// Does what a task over events asks for by its options: over those of a capture in place of a list, over what is left of them where
+/// Does what a task asks for by its options: over the events of a capture in place of a list, over what is left of events where
 /// frames of other protocols are passed over, and in the style that is asked for.
 pub fn over_events<T: EventTask, R: Source, W: Sink>(
     alloc: Global,

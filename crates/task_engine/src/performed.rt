@@ -1,28 +1,20 @@
-//! What a task notes, and what it leaves, of what its engine's run hands out.
-ghost use Rattle.std.specs.Prelude.{◌≡◌, None, option_map};
+//! What a task leaves, of what its engine's run hands out.
+ghost use Rattle.std.specs.Prelude.{◌≡◌, None, Some, option_map};
 ghost use Rattle.list_core.specs.ItemReader.{item_state};
+ghost use Rattle.capture_core.specs.PacketReader.{packet_state};
+ghost use Rattle.frame_core.specs.SkipOther.{beneath, passed_over};
 ghost use Rattle.task_engine.specs.HandedOut.{stop_of};
 ghost use Rattle.task_engine.specs.InputText.{of_list, of_stop};
 
 use crate::advising::{Advice, advice_by_line};
 use crate::stop::Stop;
-use capture_core::CaptureFault;
+use capture_core::{CaptureFault, PacketReader};
 use engine_core::{Ending, Stopped};
 use exchange_engines::ReplayStop;
-use frame_core::PassedOver;
+use frame_core::{PassedOver, SkipOther};
 use list_core::{EventLines, ItemFault, ItemReader, ListCause, Source, fault_of_list};
-use loss_engine::Unjudged;
 use script_core::{ScriptCause, ScriptLines};
 use std::alloc::Global;
-
-/// What a task notes of its events, beside what it writes.
-#[derive(Drop)]
-pub struct Notes {
-    /// A flag for each control block of a replay, by its position: it is set where the block has an entry, if there is one.
-    pub heard: Vec<bool, Global>,
-    /// The streams that `losses` counts alone.
-    pub unjudged: Unjudged<Global>,
-}
 
 /// What is told of the fault by which a task ended.
 #[derive(Drop)]
@@ -54,8 +46,115 @@ fn told_at(stop: Stop, octets: &[u8]) -> Told
     Told { stop, advice }
 }
 
-/// What is told of why a task over the packets of a capture stopped.
-pub fn told_of_packets(why: Option<ReplayStop<CaptureFault>>) -> Option<Told>
+// What is told of a fault of this line, of which the reader of the items may hold the octets.
+fn told_of<R: Source, G>(stop: Stop, line: u64, reader: &ItemReader<R, G>) -> Told
+    ensures { result.stop ≡ stop }
+{
+    told_at(stop, reader.held_from(line).unwrap_or(b""))
+}
+
+// What is told of the fault of a list.
+fn told_of_list<R: Source>(fault: &ItemFault<ListCause>, events: &ItemReader<R, EventLines>) -> Told
+    ensures { result.stop ≡ of_list fault.now }
+{
+    let fault = fault_of_list(fault);
+    told_of(Stop::List(fault), fault.line, events)
+}
+
+// What a task leaves that ran over a list of events.
+#[inline(never)]
+pub fn of_events<R: Source>(
+    stopped: Stopped<ItemReader<R, EventLines>, ItemFault<ListCause>>,
+) -> Performed<R>
+    ensures ending { result.ending ≡ stopped.ending }
+    ensures left { R.left result.reader ≡ (item_state R.left R.ending stopped.reader).left }
+    ensures source { R.ending result.reader ≡ (item_state R.left R.ending stopped.reader).ending }
+    ensures told { stop_of result.told ≡ option_map of_list stopped.fault }
+    ensures passed { result.passed ≡ None }
+{
+    let Stopped {
+        ending,
+        fault,
+        reader,
+    } = stopped;
+    let told = match &fault {
+        Some(fault) => Some(told_of_list(fault, &reader)),
+        None => None,
+    };
+    Performed {
+        ending,
+        told,
+        passed: None,
+        reader: reader.into_reader(),
+    }
+}
+
+// The line of a fault of a script.
+fn line_of(fault: &ItemFault<ScriptCause>) -> u64 {
+    match fault {
+        ItemFault::Lines(fault) => fault.line,
+        ItemFault::Line(line, _) => *line,
+    }
+}
+
+// What a task leaves that ran by a script.
+#[inline(never)]
+pub fn of_script<R: Source>(
+    stopped: Stopped<ItemReader<R, ScriptLines>, ItemFault<ScriptCause>>,
+) -> Performed<R>
+    ensures ending { result.ending ≡ stopped.ending }
+    ensures left { R.left result.reader ≡ (item_state R.left R.ending stopped.reader).left }
+    ensures source { R.ending result.reader ≡ (item_state R.left R.ending stopped.reader).ending }
+    ensures told { stop_of result.told ≡ option_map Stop.Script stopped.fault }
+    ensures passed { result.passed ≡ None }
+{
+    let Stopped {
+        ending,
+        fault,
+        reader,
+    } = stopped;
+    let told = match fault {
+        Some(fault) => {
+            let line = line_of(&fault);
+            Some(told_of(Stop::Script(fault), line, &reader))
+        }
+        None => None,
+    };
+    Performed {
+        ending,
+        told,
+        passed: None,
+        reader: reader.into_reader(),
+    }
+}
+
+// What a task leaves that read a capture.
+#[inline(never)]
+pub fn of_capture<R>(stopped: Stopped<R, CaptureFault>) -> Performed<R>
+    ensures ending { result.ending ≡ stopped.ending }
+    ensures reader { result.reader ≡ stopped.reader }
+    ensures told { stop_of result.told ≡ option_map Stop.Capture stopped.fault }
+    ensures passed { result.passed ≡ None }
+{
+    let Stopped {
+        ending,
+        fault,
+        reader,
+    } = stopped;
+    let told = match fault {
+        Some(fault) => Some(told_at(Stop::Capture(fault), b"")),
+        None => None,
+    };
+    Performed {
+        ending,
+        told,
+        passed: None,
+        reader,
+    }
+}
+
+// What is told of why a task over a capture stopped.
+fn told_of_packets(why: Option<ReplayStop<CaptureFault>>) -> Option<Told>
     ensures { stop_of result ≡ option_map (of_stop Stop.Packet) why }
 {
     match why {
@@ -67,19 +166,64 @@ pub fn told_of_packets(why: Option<ReplayStop<CaptureFault>>) -> Option<Told>
     }
 }
 
-/// What is told of why a task over the events of a list stopped.
-pub fn told_of_events<R: Source>(
+/// What a task leaves that ran over the packets of a capture.
+#[inline(never)]
+pub fn of_packets<R: Source>(
+    stopped: Stopped<PacketReader<R, Global>, ReplayStop<CaptureFault>>,
+) -> Performed<R>
+    ensures ending { result.ending ≡ stopped.ending }
+    ensures left { R.left result.reader ≡ (packet_state R.left R.ending stopped.reader).left }
+    ensures source { R.ending result.reader ≡ (packet_state R.left R.ending stopped.reader).ending }
+    ensures told { stop_of result.told ≡ option_map (of_stop Stop.Packet) stopped.fault }
+    ensures passed { result.passed ≡ None }
+{
+    let Stopped {
+        ending,
+        fault,
+        reader,
+    } = stopped;
+    Performed {
+        ending,
+        told: told_of_packets(fault),
+        passed: None,
+        reader: reader.into_reader(),
+    }
+}
+
+/// What a task leaves that ran over what is left of the packets of a capture.
+#[inline(never)]
+pub fn of_passed_packets<R: Source>(
+    stopped: Stopped<SkipOther<PacketReader<R, Global>, Global>, ReplayStop<CaptureFault>>,
+) -> Performed<R>
+    ensures ending { result.ending ≡ stopped.ending }
+    ensures left { R.left result.reader ≡ (packet_state R.left R.ending (beneath stopped.reader)).left }
+    ensures source { R.ending result.reader ≡ (packet_state R.left R.ending (beneath stopped.reader)).ending }
+    ensures passed { result.passed ≡ Some (passed_over stopped.reader) }
+    ensures told { stop_of result.told ≡ option_map (of_stop Stop.Packet) stopped.fault }
+{
+    let Stopped {
+        ending,
+        fault,
+        reader,
+    } = stopped;
+    let (packets, passed) = reader.into_parts();
+    Performed {
+        ending,
+        told: told_of_packets(fault),
+        passed: Some(passed),
+        reader: packets.into_reader(),
+    }
+}
+
+// What is told of why a task over the events of a list stopped.
+fn told_of_events<R: Source>(
     why: Option<ReplayStop<ItemFault<ListCause>>>,
     events: &ItemReader<R, EventLines>,
 ) -> Option<Told>
     ensures { stop_of result ≡ option_map (of_stop of_list) why }
 {
     match why {
-        Some(ReplayStop::Input(fault)) => {
-            let fault = fault_of_list(&fault);
-            let octets = events.held_from(fault.line).unwrap_or(b"");
-            Some(told_at(Stop::List(fault), octets))
-        }
+        Some(ReplayStop::Input(fault)) => Some(told_of_list(&fault, events)),
         Some(ReplayStop::SameBlockTwice(position)) => {
             Some(told_at(Stop::SameBlockTwice(position), b""))
         }
@@ -87,9 +231,9 @@ pub fn told_of_events<R: Source>(
     }
 }
 
-/// What a task leaves that ran over the events of a list.
+/// What a task leaves that ran over the events of a list, in a style.
 #[inline(never)]
-pub fn of_list<R: Source>(
+pub fn of_styled_events<R: Source>(
     stopped: Stopped<ItemReader<R, EventLines>, ReplayStop<ItemFault<ListCause>>>,
 ) -> Performed<R>
     ensures ending { result.ending ≡ stopped.ending }
@@ -98,68 +242,45 @@ pub fn of_list<R: Source>(
     ensures told { stop_of result.told ≡ option_map (of_stop of_list) stopped.fault }
     ensures passed { result.passed ≡ None }
 {
-    let told = told_of_events(stopped.fault, &stopped.reader);
+    let Stopped {
+        ending,
+        fault,
+        reader,
+    } = stopped;
+    let told = told_of_events(fault, &reader);
     Performed {
-        ending: stopped.ending,
+        ending,
         told,
         passed: None,
-        reader: stopped.reader.into_reader(),
+        reader: reader.into_reader(),
     }
 }
 
-// What is told of a fault of a script.
-fn told_of_script<R: Source>(
-    fault: ItemFault<ScriptCause>,
-    lines: &ItemReader<R, ScriptLines>,
-) -> Told
-    ensures { result.stop ≡ Stop.Script fault }
-{
-    let line = match &fault {
-        ItemFault::Lines(fault) => fault.line,
-        ItemFault::Line(line, _) => *line,
-    };
-    told_at(Stop::Script(fault), lines.held_from(line).unwrap_or(b""))
-}
-
-/// What a task leaves that ran by a script.
+/// What a task leaves that ran over what is left of the events of a list.
 #[inline(never)]
-pub fn of_script<R: Source>(
-    stopped: Stopped<ItemReader<R, ScriptLines>, ItemFault<ScriptCause>>,
+pub fn of_passed_events<R: Source>(
+    stopped: Stopped<
+        SkipOther<ItemReader<R, EventLines>, Global>,
+        ReplayStop<ItemFault<ListCause>>,
+    >,
 ) -> Performed<R>
     ensures ending { result.ending ≡ stopped.ending }
-    ensures left { R.left result.reader ≡ (item_state R.left R.ending stopped.reader).left }
-    ensures source { R.ending result.reader ≡ (item_state R.left R.ending stopped.reader).ending }
-    ensures told { stop_of result.told ≡ option_map Stop.Script stopped.fault }
-    ensures passed { result.passed ≡ None }
+    ensures left { R.left result.reader ≡ (item_state R.left R.ending (beneath stopped.reader)).left }
+    ensures source { R.ending result.reader ≡ (item_state R.left R.ending (beneath stopped.reader)).ending }
+    ensures passed { result.passed ≡ Some (passed_over stopped.reader) }
+    ensures told { stop_of result.told ≡ option_map (of_stop of_list) stopped.fault }
 {
-    let told = match stopped.fault {
-        Some(fault) => Some(told_of_script(fault, &stopped.reader)),
-        None => None,
-    };
+    let Stopped {
+        ending,
+        fault,
+        reader,
+    } = stopped;
+    let (events, passed) = reader.into_parts();
+    let told = told_of_events(fault, &events);
     Performed {
-        ending: stopped.ending,
+        ending,
         told,
-        passed: None,
-        reader: stopped.reader.into_reader(),
-    }
-}
-
-/// What a task leaves that read a capture.
-#[inline(never)]
-pub fn of_capture<R>(stopped: Stopped<R, CaptureFault>) -> Performed<R>
-    ensures ending { result.ending ≡ stopped.ending }
-    ensures reader { result.reader ≡ stopped.reader }
-    ensures told { stop_of result.told ≡ option_map Stop.Capture stopped.fault }
-    ensures passed { result.passed ≡ None }
-{
-    let told = match stopped.fault {
-        Some(fault) => Some(told_at(Stop::Capture(fault), b"")),
-        None => None,
-    };
-    Performed {
-        ending: stopped.ending,
-        told,
-        passed: None,
-        reader: stopped.reader,
+        passed: Some(passed),
+        reader: events.into_reader(),
     }
 }

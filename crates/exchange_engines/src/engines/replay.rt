@@ -3,11 +3,12 @@ ghost use Rattle.std.specs.Prelude.{◌≡◌, ◌++◌, [], ℕ, List, IsOk, fa
 ghost use Rattle.std.specs.Fmt.{decimal};
 ghost use Rattle.list_core.specs.declared.device.InputEnd.{InputEnd};
 ghost use Rattle.list_core.specs.Device.{GivesOctets};
+ghost use Rattle.list_core.specs.ItemReader.{item_state};
 ghost use Rattle.engine_core.specs.Ending.{is_write_fault};
 ghost use Rattle.engine_core.specs.EventsText.{fault_text, line_in};
 ghost use Rattle.engine_core.specs.Input.{reader_of};
 ghost use Rattle.text_core.specs.Pieces.{AppendsText};
-ghost use Rattle.exchange_engines.specs.ReplayText.{LeavesTwiceIn, ReplayWrites, ReplaysOver, twice_line, twice_stop};
+ghost use Rattle.exchange_engines.specs.ReplayText.{LeavesTwiceIn, ReplayWrites, ReplayWritesTo, ReplaysOver, twice_line, twice_stop};
 ghost use Rattle.object_core.specs.Objects.{AppendsSome};
 ghost use Rattle.exchange_engines.specs.EntryObject.{twice_object};
 ghost use Rattle.exchange_engines.specs.computed.ReplayAgrees.{replay_agrees};
@@ -15,8 +16,10 @@ ghost use Rattle.exchange_engines.specs.computed.ReplayStep.{IsSaid, kept_after,
 
 use crate::texts::entry::put_entry_lines;
 use crate::texts::entry_object::{EntryHeading, put_entry_objects, put_twice_object};
-use engine_core::{Ending, EventEngine, Stopped, Style, refuse, run_events};
-use list_core::{Event, EventLines, InputFault, ItemReader, ReadItems, Sink, Source};
+use engine_core::{Ending, EventEngine, OfEvents, Stopped, Style, refuse, run_over, run_to_stop};
+use list_core::{
+    Event, EventLines, InputFault, ItemFault, ItemReader, ListCause, ReadItems, Sink, Source,
+};
 use object_core::{Form, LastObject};
 use std::alloc::{AllocError, Allocator};
 use subscribe_core::{Block, Entry, SubscribeFault, Subscriber};
@@ -178,7 +181,6 @@ fn stop_of_twice<F>(ending: Ending, position: usize) -> Option<ReplayStop<F>>
 }
 
 /// What a run hands out that stops by no other reason than its input's fault.
-#[inline(always)]
 pub fn of_input<I, F>(stopped: Stopped<I, F>) -> Stopped<I, ReplayStop<F>>
     ensures ending { result.ending ≡ stopped.ending }
     ensures fault { result.fault ≡ option_map ReplayStop.Input stopped.fault }
@@ -241,14 +243,60 @@ pub fn replay<A: Allocator + Copy, R: Source, W: Sink>(
     ensures read_fault { result.0 ≡ Ending.ReadFault → R.ending result.1 ≡ InputEnd.Failed }
     ensures fault { W.failed writer.new ≡ is_write_fault result.0 }
 {
-    let events = ItemReader::new(reader, EventLines::First);
-    let style = Style::Lines(Form::Text);
-    replay_over(alloc, style, events, blocks, &mut [], writer).into_source()
+    replay_to_stop(alloc, reader, blocks, &mut [], writer).into_source()
 }
 
-/// As `replay`, over any reader of events, in a style: the last line is that of the input's fault. Hands out why it ended, and the reader of the
-/// events. Of each block that has had an entry, which a frame of it has, the flag at its position is set, if there is one.
-#[inline(always)]
+/// As `replay`, and hands out the fault by which it ended, and the reader of the events. Of each block that has had an entry,
+/// which a frame of it has, the flag at its position is set, if there is one.
+#[inline(never)]
+pub fn replay_to_stop<A: Allocator + Copy, R: Source, W: Sink>(
+    alloc: A,
+    reader: R,
+    blocks: Vec<Block<A>, A>,
+    heard: &mut [bool],
+    writer: &mut W,
+) -> Stopped<ItemReader<R, EventLines>, ReplayStop<ItemFault<ListCause>>>
+    requires open { R.ending reader ≡ InputEnd.Open }
+    requires works { W.failed writer.old ≡ false }
+    ensures text { (given : List ℕ) × GivesOctets (R.left reader) (item_state R.left R.ending result.reader).left given
+        × ReplayWritesTo blocks.items result.ending result.fault (item_state R.left R.ending result.reader).ending given (W.contents writer.old) (W.contents writer.new) }
+    ensures read_fault { result.ending ≡ Ending.ReadFault → (item_state R.left R.ending result.reader).ending ≡ InputEnd.Failed }
+    ensures fault { W.failed writer.new ≡ is_write_fault result.ending }
+{
+    match Subscriber::of_blocks(alloc, blocks) {
+        Ok(subscriber) => of_input(run_to_stop(
+            alloc,
+            EventLines::First,
+            OfEvents {
+                engine: Replaying {
+                    subscriber,
+                    entries: Vec::new(alloc),
+                    heard,
+                },
+                style: Style::Lines(Form::Text),
+                undated: Vec::new(alloc),
+            },
+            b"",
+            reader,
+            writer,
+        )),
+        Err((fault, blocks)) => match fault {
+            SubscribeFault::SameBlockTwice(position) => {
+                let style = Style::Lines(Form::Text);
+                let blocks = blocks.as_slice();
+                let (ending, reader) = refuse_twice(alloc, style, blocks, position, reader, writer);
+                let events = ItemReader::new(reader, EventLines::First);
+                unread(ending, stop_of_twice(ending, position), events)
+            }
+            SubscribeFault::Memory(_) => {
+                let events = ItemReader::new(reader, EventLines::First);
+                unread(Ending::Memory, None, events)
+            }
+        },
+    }
+}
+
+/// As `replay_to_stop`, over any reader of events, in a style: the last line is that of the input's fault.
 pub fn replay_over<
     A: Allocator + Copy,
     F: InputFault + LastLine + LastObject + Drop,
@@ -273,7 +321,12 @@ pub fn replay_over<
                 entries: Vec::new(alloc),
                 heard,
             };
-            of_input(run_events(alloc, style, engine, events, writer))
+            let engine = OfEvents {
+                engine,
+                style,
+                undated: Vec::new(alloc),
+            };
+            of_input(run_over(alloc, engine, b"", events, writer))
         }
         Err((fault, blocks)) => match fault {
             SubscribeFault::SameBlockTwice(position) => {

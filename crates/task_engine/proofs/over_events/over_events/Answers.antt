@@ -1,5 +1,5 @@
 use Rattle.std.proofs.Common.{true, false}
-use Rattle.task_engine.proofs.EventTaskLemmas.{by_options, input_failed}
+use Rattle.task_engine.proofs.EventTaskLemmas.{by_options}
 use Rattle.task_engine.proofs.over_events.over_events.Goals as goal
 
 pub returns-in-true-true-clause-text : goal.returns-in-true-true-clause-text
@@ -10,9 +10,6 @@ returns-in-true-true-clause-text g c =
 pub returns-in-true-true-clause-passed : goal.returns-in-true-true-clause-passed
 returns-in-true-true-clause-passed g c = rw (c.in-true-true.is-0, c.in-true-true.is-1) c.over_passed_capture.ensures.passed
 
-pub returns-in-true-true-clause-read_fault : goal.returns-in-true-true-clause-read_fault
-returns-in-true-true-clause-read_fault g c = input_failed true true c.style_of-style.result _ _ _ c.over_passed_capture.ensures.text.2
-
 pub returns-in-true-false-clause-text : goal.returns-in-true-false-clause-text
 returns-in-true-false-clause-text g c =
     let left = c.over_capture.ensures.text in
@@ -20,9 +17,6 @@ returns-in-true-false-clause-text g c =
 
 pub returns-in-true-false-clause-passed : goal.returns-in-true-false-clause-passed
 returns-in-true-false-clause-passed g c = rw (c.in-true-false.is-0, c.in-true-false.is-1) c.over_capture.ensures.passed
-
-pub returns-in-true-false-clause-read_fault : goal.returns-in-true-false-clause-read_fault
-returns-in-true-false-clause-read_fault g c = input_failed true false c.style_of-style.result _ _ _ c.over_capture.ensures.text.2
 
 pub returns-in-false-true-clause-text : goal.returns-in-false-true-clause-text
 returns-in-false-true-clause-text g c =
@@ -32,9 +26,6 @@ returns-in-false-true-clause-text g c =
 pub returns-in-false-true-clause-passed : goal.returns-in-false-true-clause-passed
 returns-in-false-true-clause-passed g c = rw (c.in-false-true.is-0, c.in-false-true.is-1) c.over_passed_list.ensures.passed
 
-pub returns-in-false-true-clause-read_fault : goal.returns-in-false-true-clause-read_fault
-returns-in-false-true-clause-read_fault g c = input_failed false true c.style_of-style.result _ _ _ c.over_passed_list.ensures.text.2
-
 pub returns-in-false-false-clause-text : goal.returns-in-false-false-clause-text
 returns-in-false-false-clause-text g c =
     let left = c.over_list.ensures.text in
@@ -42,6 +33,3 @@ returns-in-false-false-clause-text g c =
 
 pub returns-in-false-false-clause-passed : goal.returns-in-false-false-clause-passed
 returns-in-false-false-clause-passed g c = rw (c.in-false-false.is-0, c.in-false-false.is-1) c.over_list.ensures.passed
-
-pub returns-in-false-false-clause-read_fault : goal.returns-in-false-false-clause-read_fault
-returns-in-false-false-clause-read_fault g c = input_failed false false c.style_of-style.result _ _ _ c.over_list.ensures.text.2

@@ -11,9 +11,9 @@ use Rattle.exchange_engines.proofs.engines.replay.replay_over.Goals as goal
 
 pub returns-in-Ok-clause-text : goal.returns-in-Ok-clause-text
 returns-in-Ok-clause-text g c =
-    let stopped = c.run_events.result in
+    let stopped = c.run_over.result in
     let same = ap (λ (s : State g.row.A.Denot). s.blocks) c.in-Ok.ensures.fresh in
-    let run = subst (λ (bs : List (Block g.row.A.Denot)). RunsOver (reader_of g.I.ReadItems.answers g.I.ReadItems.number g.F.InputFault.refused g.F.InputFault.failed) (over_in c.args.style (replay_allows bs) (fault_text g.F.LastLine.last_line g.F.LastObject.last_object)) c.args.events stopped (g.W.Sink.contents c.args.writer.now) (g.W.Sink.contents c.run_events.new.writer)) same c.run_events.ensures.text in
+    let run = subst (λ (bs : List (Block g.row.A.Denot)). RunsOver (reader_of g.I.ReadItems.answers g.I.ReadItems.number g.F.InputFault.refused g.F.InputFault.failed) (over_in c.args.style (replay_allows bs) (fault_text g.F.LastLine.last_line g.F.LastObject.last_object)) c.args.events stopped (g.W.Sink.contents c.args.writer.now) (g.W.Sink.contents c.run_over.new.writer)) same c.run_over.ensures.text in
     rw (c.of_input.ensures.ending, c.of_input.ensures.fault, c.of_input.ensures.reader) (inr (inr (record {
       are_apart = c.in-Ok.ensures.apart;
       fault = stopped.fault;
