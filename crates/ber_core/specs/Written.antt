@@ -20,7 +20,8 @@ short_length n = if nat_lt n 128 then n ∷ [] else (128 + number_size n) ∷ bi
 
 -- the fewest octets, from 1 to 9, that hold n beside a sign bit
 abbrev pub signed_size : ℕ → ℕ
-signed_size n = if nat_lt n (2 ^ 7) then 1 else (if nat_lt n (2 ^ 15) then 2 else (if nat_lt n (2 ^ 23) then 3 else (if nat_lt n (2 ^ 31) then 4 else (if nat_lt n (2 ^ 39) then 5 else (if nat_lt n (2 ^ 47) then 6 else (if nat_lt n (2 ^ 55) then 7 else (if nat_lt n (2 ^ 63) then 8 else 9)))))))
+signed_size n = if nat_lt n (2 ^ 7) then 1 else (if nat_lt n (2 ^ 15) then 2 else (if nat_lt n (2 ^ 23) then 3 else (if nat_lt n (2 ^ 31) then 4 else
+    (if nat_lt n (2 ^ 39) then 5 else (if nat_lt n (2 ^ 47) then 6 else (if nat_lt n (2 ^ 55) then 7 else (if nat_lt n (2 ^ 63) then 8 else 9)))))))
 
 -- the same for an integer: -1 - n takes as many as n
 unfoldable pub integer_size : ℤ → ℕ

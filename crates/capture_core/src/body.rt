@@ -73,7 +73,8 @@ pub(crate) fn read_event<R: Source, A: Allocator + Copy>(
     spare: &mut Option<Event<A>>,
     head: PacketHead,
 ) -> Result<Event<A>, Unread>
-    ensures { ReadsKept (λ e octets. e ≡ event_of (record { moment = head.moment; link_type = head.link_type; octets = octets })) (λ given. (given ≡ []) × IsFrameHead head) head.size (R.left reader.old) (R.ending reader.old) result (R.left reader.new) (R.ending reader.new) }
+    ensures { ReadsKept (λ e octets. e ≡ event_of (record { moment = head.moment; link_type = head.link_type; octets = octets })) (λ given. (given ≡ []) × IsFrameHead head)
+        head.size (R.left reader.old) (R.ending reader.old) result (R.left reader.new) (R.ending reader.new) }
 {
     let moment = head.moment;
     if head.link_type != ETHERNET || head.size == 0 {
@@ -99,7 +100,8 @@ fn read_packet<R: Source, A: Allocator + Copy>(
     kind: PacketBlock,
     size: usize,
 ) -> Result<Result<Event<A>, CaptureCause>, Unread>
-    ensures { ReadsKept (λ r body. IsPacketToldAs r (packet_in kind (settled section.entry) body)) (TellsFrame (settled section.entry) kind size) size (R.left reader.old) (R.ending reader.old) result (R.left reader.new) (R.ending reader.new) }
+    ensures { ReadsKept (λ r body. IsPacketToldAs r (packet_in kind (settled section.entry) body)) (TellsFrame (settled section.entry) kind size)
+        size (R.left reader.old) (R.ending reader.old) result (R.left reader.new) (R.ending reader.new) }
 {
     let before = head_size(kind);
     if size < before {
@@ -179,7 +181,8 @@ pub(crate) fn read_rest<R: Source, A: Allocator + Copy>(
     total: u32,
 ) -> Result<Result<Said<A>, CaptureCause>, Unread>
     requires { 12 ≤ total }
-    ensures { ReadsKept (λ r rest. IsSaidAs r (block_rest section.entry.order total rest (body_said (settled section.entry) kind))) (TellsFrameOf (settled section.entry) kind (total - 12)) (total - 8) (R.left reader.old) (R.ending reader.old) result (R.left reader.new) (R.ending reader.new) }
+    ensures { ReadsKept (λ r rest. IsSaidAs r (block_rest section.entry.order total rest (body_said (settled section.entry) kind))) (TellsFrameOf (settled section.entry) kind (total - 12))
+        (total - 8) (R.left reader.old) (R.ending reader.old) result (R.left reader.new) (R.ending reader.new) }
 {
     let said = read_body(reader, alloc, spare, section, kind, total as usize - 12)?;
     if read_end(reader, section.order, total)? {

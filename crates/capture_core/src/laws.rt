@@ -1,5 +1,6 @@
 //! Laws about captures. The functions compute nothing.
-ghost use Rattle.capture_core.specs.Laws.{AnsweredEndIsWhole, AnsweredFaultIsFirst, EndedIsWholeOrFaulty, FirstFaultEndsEvents, FirstFaultIsOne, FirstFaultIsRead, ReadFaultIsFirst, ReadIsSpelled, ReadPacketsAreSpelled, SpelledIsRead, SpelledPacketsAreRead};
+ghost use Rattle.capture_core.specs.Laws.{AnsweredEndIsWhole, AnsweredFaultIsFirst, EndedIsWholeOrFaulty, FirstFaultEndsEvents, FirstFaultIsOne};
+ghost use Rattle.capture_core.specs.Laws.{FirstFaultIsRead, ReadFaultIsFirst, ReadIsSpelled, ReadPacketsAreSpelled, SpelledIsRead, SpelledPacketsAreRead};
 
 use std::alloc::Allocator;
 

@@ -108,7 +108,7 @@ TakesOff (Err f) z rest held = held ≡ rest
 abbrev pub WantsBehind : List ℕ → List ℕ → Type 0
 WantsBehind octets skipped = (lines rest more : List ℕ) × (octets ≡ lines ++ rest) × IsWanting rest × (skipped ≡ lines ++ more)
 
--- The source was asked for octets only once the whole lines that were held were passed over, and where what followed them was wanting: of what was held at first; and of what was held in the end, where the last read gave none and told another ending.
+-- The source was asked for octets only once the whole lines that were held were passed over and what followed was wanting: of what was held at first; and of what was held in the end, where the last read gave none and told another ending.
 abbrev pub OnlySkipped : Option (List ℕ) → InputEnd → List ℕ → List ℕ → List ℕ → Option (List ℕ) → InputEnd → Type 0
 OnlySkipped old z held given skipped new w = ((given ≡ []) × (new ≡ old) × (w ≡ z))
     ⊎ (WantsBehind held skipped × ((w ≡ z) ⊎ WantsBehind (held ++ given) skipped))

@@ -1,6 +1,7 @@
 //! Laws about the definitions that the contracts of this crate cite. The functions compute nothing.
 
-ghost use Rattle.mms_data.specs.Laws.{AllWrittenAreShortest, AllWrittenAreSpelled, FaultIsOne, MembersAreOne, MembersElseFault, MembersOrFault, ReadingIsTrue, ReadingTells, SeenIsOne, SeenIsSpelled, SpelledIsSpellable, WrittenIsShortest, WrittenIsSpelled};
+ghost use Rattle.mms_data.specs.Laws.{AllWrittenAreShortest, AllWrittenAreSpelled, FaultIsOne, MembersAreOne, MembersElseFault, MembersOrFault};
+ghost use Rattle.mms_data.specs.Laws.{ReadingIsTrue, ReadingTells, SeenIsOne, SeenIsSpelled, SpelledIsSpellable, WrittenIsShortest, WrittenIsSpelled};
 
 /// Octets spell one list of members, or have one first fault, and never both.
 pub fn one_reading()

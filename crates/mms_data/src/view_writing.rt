@@ -33,7 +33,8 @@ fn put_cleared<const N: usize>(out: &mut ArrayVec<u8, N>, bits: BitView<'_>)
 // Appends the element of bits.
 #[tactic(auto, using(crate::proofs::Sizes::bits_size))]
 fn put_bits<const N: usize>(out: &mut ArrayVec<u8, N>, bits: BitView<'_>) -> Result<(), Full>
-    ensures enough { length (written_element 0x84 (bits.entry.unused ∷ cleared bits.entry.unused bits.entry.octets.now)) < 2 ^ 32 → array_vec_len out.old + length (written_element 0x84 (bits.entry.unused ∷ cleared bits.entry.unused bits.entry.octets.now)) ≤ N → IsOk result }
+    ensures enough { length (written_element 0x84 (bits.entry.unused ∷ cleared bits.entry.unused bits.entry.octets.now)) < 2 ^ 32
+        → array_vec_len out.old + length (written_element 0x84 (bits.entry.unused ∷ cleared bits.entry.unused bits.entry.octets.now)) ≤ N → IsOk result }
     ensures written { OnOk result (out.new.items ≡ out.old.items ++ written_element 0x84 (bits.entry.unused ∷ cleared bits.entry.unused bits.entry.octets.now)) }
 {
     if 0xffff_fffe < bits.octets.len() {

@@ -28,7 +28,8 @@ fn put_fields<const N: usize>(out: &mut ArrayVec<u8, N>, view: &GooseView<'_>) -
 
 // Appends the fields from stNum on.
 fn put_numbers<const N: usize>(out: &mut ArrayVec<u8, N>, view: &GooseView<'_>) -> Result<(), Full>
-    ensures enough { length (written_fields (drop 5 goose_fields) (drop 5 (goose_items (pdu_of {A = Unit {0}} view.now)))) < 2 ^ 32 → array_vec_len out.old + length (written_fields (drop 5 goose_fields) (drop 5 (goose_items (pdu_of {A = Unit {0}} view.now)))) ≤ N → IsOk result }
+    ensures enough { length (written_fields (drop 5 goose_fields) (drop 5 (goose_items (pdu_of {A = Unit {0}} view.now)))) < 2 ^ 32
+        → array_vec_len out.old + length (written_fields (drop 5 goose_fields) (drop 5 (goose_items (pdu_of {A = Unit {0}} view.now)))) ≤ N → IsOk result }
     ensures written { OnOk result (out.new.items ≡ out.old.items ++ written_fields (drop 5 goose_fields) (drop 5 (goose_items (pdu_of {A = Unit {0}} view.now)))) }
 {
     put_number(out, 0x85, u64::from(view.st_num))?;
@@ -41,7 +42,8 @@ fn put_numbers<const N: usize>(out: &mut ArrayVec<u8, N>, view: &GooseView<'_>) 
 
 // Appends the count of entries, and the entries.
 fn put_entries<const N: usize>(out: &mut ArrayVec<u8, N>, view: &GooseView<'_>) -> Result<(), Full>
-    ensures enough { length (written_fields (drop 10 goose_fields) (drop 10 (goose_items (pdu_of {A = Unit {0}} view.now)))) < 2 ^ 32 → array_vec_len out.old + length (written_fields (drop 10 goose_fields) (drop 10 (goose_items (pdu_of {A = Unit {0}} view.now)))) ≤ N → IsOk result }
+    ensures enough { length (written_fields (drop 10 goose_fields) (drop 10 (goose_items (pdu_of {A = Unit {0}} view.now)))) < 2 ^ 32
+        → array_vec_len out.old + length (written_fields (drop 10 goose_fields) (drop 10 (goose_items (pdu_of {A = Unit {0}} view.now)))) ≤ N → IsOk result }
     ensures written { OnOk result (out.new.items ≡ out.old.items ++ written_fields (drop 10 goose_fields) (drop 10 (goose_items (pdu_of {A = Unit {0}} view.now)))) }
 {
     put_number(out, 0x8a, view.entries as u64)?;

@@ -39,7 +39,8 @@ fn put_numbers<A: Allocator, const N: usize>(
     parts: &GooseParts<'_, A>,
 ) -> Result<(), Full>
     requires spellable { IsSpellableGoose (pdu_of_parts parts.now) }
-    ensures enough { length (written_fields (drop 5 goose_fields) (drop 5 (goose_items (pdu_of_parts parts.now)))) < 2 ^ 32 → array_vec_len out.old + length (written_fields (drop 5 goose_fields) (drop 5 (goose_items (pdu_of_parts parts.now)))) ≤ N → IsOk result }
+    ensures enough { length (written_fields (drop 5 goose_fields) (drop 5 (goose_items (pdu_of_parts parts.now)))) < 2 ^ 32
+        → array_vec_len out.old + length (written_fields (drop 5 goose_fields) (drop 5 (goose_items (pdu_of_parts parts.now)))) ≤ N → IsOk result }
     ensures written { OnOk result (out.new.items ≡ out.old.items ++ written_fields (drop 5 goose_fields) (drop 5 (goose_items (pdu_of_parts parts.now)))) }
 {
     put_number(out, 0x85, u64::from(parts.st_num))?;
@@ -56,7 +57,8 @@ fn put_entries<A: Allocator, const N: usize>(
     parts: &GooseParts<'_, A>,
 ) -> Result<(), Full>
     requires spellable { IsSpellableGoose (pdu_of_parts parts.now) }
-    ensures enough { length (written_fields (drop 10 goose_fields) (drop 10 (goose_items (pdu_of_parts parts.now)))) < 2 ^ 32 → array_vec_len out.old + length (written_fields (drop 10 goose_fields) (drop 10 (goose_items (pdu_of_parts parts.now)))) ≤ N → IsOk result }
+    ensures enough { length (written_fields (drop 10 goose_fields) (drop 10 (goose_items (pdu_of_parts parts.now)))) < 2 ^ 32
+        → array_vec_len out.old + length (written_fields (drop 10 goose_fields) (drop 10 (goose_items (pdu_of_parts parts.now)))) ≤ N → IsOk result }
     ensures written { OnOk result (out.new.items ≡ out.old.items ++ written_fields (drop 10 goose_fields) (drop 10 (goose_items (pdu_of_parts parts.now)))) }
 {
     let entries = parts.members.as_slice();

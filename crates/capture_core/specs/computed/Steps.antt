@@ -56,5 +56,6 @@ Settles old (said.Begins order) step new = (step ≡ Passed) × (new.progress �
 Settles old (said.Describes i) step new =
     ((step ≡ Passed) × (new.progress ≡ old.progress) × (new.interfaces.items ≡ old.interfaces.items ++ i ∷ []) × (new.moment ≡ old.moment) × (new.answered ≡ old.answered) × (new.most + 1 ≡ old.most))
     ⊎ (IsWantOfMemory step × (new.progress ≡ progress.GivenUp) × (new.answered ≡ old.answered))
-Settles old (said.Captures e) step new = (step ≡ Answered (Ok (Some e))) × (new.progress ≡ old.progress) × (new.interfaces.items ≡ old.interfaces.items) × (new.moment ≡ e.moment) × (new.answered ≡ old.answered + 1) × (new.most + 1 ≡ old.most)
+Settles old (said.Captures e) step new = (step ≡ Answered (Ok (Some e))) × (new.progress ≡ old.progress) × (new.interfaces.items ≡ old.interfaces.items) × (new.moment ≡ e.moment)
+    × (new.answered ≡ old.answered + 1) × (new.most + 1 ≡ old.most)
 Settles old said.Passes step new = (step ≡ Passed) × (new.progress ≡ old.progress) × (new.interfaces.items ≡ old.interfaces.items) × (new.moment ≡ old.moment) × (new.answered ≡ old.answered) × (new.most + 1 ≡ old.most)

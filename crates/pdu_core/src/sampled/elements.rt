@@ -30,7 +30,8 @@ fn put_fields<const N: usize>(out: &mut ArrayVec<u8, N>, asdu: &AsduView<'_>) ->
 
 // Appends the fields from smpSynch on.
 fn put_samples<const N: usize>(out: &mut ArrayVec<u8, N>, asdu: &AsduView<'_>) -> Result<(), Full>
-    ensures enough { length (written_fields (drop 5 asdu_fields) (drop 5 (asdu_items (asdu_of {A = Unit {0}} asdu.now)))) < 2 ^ 32 → array_vec_len out.old + length (written_fields (drop 5 asdu_fields) (drop 5 (asdu_items (asdu_of {A = Unit {0}} asdu.now)))) ≤ N → IsOk result }
+    ensures enough { length (written_fields (drop 5 asdu_fields) (drop 5 (asdu_items (asdu_of {A = Unit {0}} asdu.now)))) < 2 ^ 32
+        → array_vec_len out.old + length (written_fields (drop 5 asdu_fields) (drop 5 (asdu_items (asdu_of {A = Unit {0}} asdu.now)))) ≤ N → IsOk result }
     ensures written { OnOk result (out.new.items ≡ out.old.items ++ written_fields (drop 5 asdu_fields) (drop 5 (asdu_items (asdu_of {A = Unit {0}} asdu.now)))) }
 {
     put_octets(out, 0x85, &asdu.smp_synch.to_be_bytes())?;
@@ -57,7 +58,8 @@ fn put_contents<const N: usize>(
     count: usize,
     asdus: &[u8],
 ) -> Result<(), Full>
-    ensures enough { length (written_element 0x80 (short_integer (pos count)) ++ written_element 0xa2 asdus.now) < 2 ^ 32 → array_vec_len out.old + length (written_element 0x80 (short_integer (pos count)) ++ written_element 0xa2 asdus.now) ≤ N → IsOk result }
+    ensures enough { length (written_element 0x80 (short_integer (pos count)) ++ written_element 0xa2 asdus.now) < 2 ^ 32
+        → array_vec_len out.old + length (written_element 0x80 (short_integer (pos count)) ++ written_element 0xa2 asdus.now) ≤ N → IsOk result }
     ensures written { OnOk result (out.new.items ≡ out.old.items ++ (written_element 0x80 (short_integer (pos count)) ++ written_element 0xa2 asdus.now)) }
 {
     put_number(out, 0x80, count as u64)?;
@@ -71,7 +73,8 @@ pub fn put_sampled_apdu<const N: usize>(
     count: usize,
     asdus: &[u8],
 ) -> Result<(), Full>
-    ensures fits { IsOk result ↔ ((length (written_element 0x80 (short_integer (pos count)) ++ written_element 0xa2 asdus.now) < 2 ^ 32) × (array_vec_len out.old + length (written_element 0x60 (written_element 0x80 (short_integer (pos count)) ++ written_element 0xa2 asdus.now)) ≤ N)) }
+    ensures fits { IsOk result ↔ ((length (written_element 0x80 (short_integer (pos count)) ++ written_element 0xa2 asdus.now) < 2 ^ 32)
+        × (array_vec_len out.old + length (written_element 0x60 (written_element 0x80 (short_integer (pos count)) ++ written_element 0xa2 asdus.now)) ≤ N)) }
     ensures written { OnOk result (out.new.items ≡ out.old.items ++ written_element 0x60 (written_element 0x80 (short_integer (pos count)) ++ written_element 0xa2 asdus.now)) }
     ensures unchanged { OnErr result (out.new ≡ out.old) }
 {
