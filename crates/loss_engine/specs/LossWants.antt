@@ -40,7 +40,8 @@ pub record StandsBehind {A C F : Type 0} (input : Input (Event A) C F) (z : Inpu
   pub of_events : (length events ≡ length written) ⊎ ((answer ≡ Ok None) × (length events ≤ length written))
 
 -- These pieces were given, and then this answer: so it is told of the input, which was read no further than the answer needs. Memory is wanted only for this.
-pub record ArePiecesRead {A C F : Type 0} (input : Input (Event A) C F) (z : InputEnd) (read : List ℕ) (pieces : Numbered ItemText F) (Wants : List (ℕ × ItemText) → Type 0) (written : List (ℕ × ItemText)) (answer : AnswerOf ItemText F) : Type 0 where
+pub record ArePiecesRead {A C F : Type 0} (input : Input (Event A) C F) (z : InputEnd) (read : List ℕ) (pieces : Numbered ItemText F)
+    (Wants : List (ℕ × ItemText) → Type 0) (written : List (ℕ × ItemText)) (answer : AnswerOf ItemText F) : Type 0 where
   pub onward : Numbered ItemText F
   pub says : pieces ≡ put_items written onward
   pub tells : TellsNext answer onward

@@ -73,7 +73,8 @@ fn compare_rest(own: Key<'_>, other: Key<'_>) -> Ordering
 
 // How two of the same APPID stand to one another.
 fn compare_behind(own: Key<'_>, other: Key<'_>) -> Ordering
-    ensures { result ≡ ordering_then (name_cmp (name_of (key_said own.entry)) (name_of (key_said other.entry))) (ordering_then (nat_cmp (rank_of (key_said own.entry)) (rank_of (key_said other.entry))) (slice_cmp nat_cmp (source_of (key_said own.entry)) (source_of (key_said other.entry)))) }
+    ensures { result ≡ ordering_then (name_cmp (name_of (key_said own.entry)) (name_of (key_said other.entry)))
+        (ordering_then (nat_cmp (rank_of (key_said own.entry)) (rank_of (key_said other.entry))) (slice_cmp nat_cmp (source_of (key_said own.entry)) (source_of (key_said other.entry)))) }
 {
     match compare_names(own.name(), other.name()) {
         Ordering::Equal => compare_rest(own, other),

@@ -26,7 +26,8 @@ fn put_goose<A: Allocator + Copy>(
     app_id: u16,
     goose: &GooseView<'_>,
 ) -> Result<bool, AllocError>
-    ensures tells { IfOk result (λ found. TellsSights heading (period_by losses.old) (kept_by losses.old) (sight_of_goose (kept_by losses.old).moment app_id (pdu_of {A = Unit {0}} goose.now) ∷ []) out.old.items found out.new.items (kept_by losses.new)) }
+    ensures tells { IfOk result (λ found. TellsSights heading (period_by losses.old) (kept_by losses.old) (sight_of_goose (kept_by losses.old).moment app_id (pdu_of {A = Unit {0}} goose.now) ∷ [])
+        out.old.items found out.new.items (kept_by losses.new)) }
     ensures period { period_by losses.new ≡ period_by losses.old }
     ensures wants { OnErr result (WantsFor heading (period_by losses.old) (kept_by losses.old) (sight_of_goose (kept_by losses.old).moment app_id (pdu_of {A = Unit {0}} goose.now) ∷ [])) }
     ensures kept { take (length out.old.items) out.new.items ≡ out.old.items }
@@ -55,7 +56,8 @@ fn put_asdu<A: Allocator + Copy>(
     source: [u8; 6],
     asdu: &AsduView<'_>,
 ) -> Result<bool, AllocError>
-    ensures tells { IfOk result (λ found. TellsSights heading.now (period_by losses.old) (kept_by losses.old) (sight_of_asdu (kept_by losses.old).moment app_id source (asdu_of {A = Unit {0}} asdu.now) ∷ []) out.old.items found out.new.items (kept_by losses.new)) }
+    ensures tells { IfOk result (λ found. TellsSights heading.now (period_by losses.old) (kept_by losses.old) (sight_of_asdu (kept_by losses.old).moment app_id source (asdu_of {A = Unit {0}} asdu.now) ∷ [])
+        out.old.items found out.new.items (kept_by losses.new)) }
     ensures period { period_by losses.new ≡ period_by losses.old }
     ensures wants { OnErr result (WantsFor heading.now (period_by losses.old) (kept_by losses.old) (sight_of_asdu (kept_by losses.old).moment app_id source (asdu_of {A = Unit {0}} asdu.now) ∷ [])) }
     ensures kept { take (length out.old.items) out.new.items ≡ out.old.items }
@@ -83,7 +85,8 @@ fn put_asdus<A: Allocator + Copy>(
     source: [u8; 6],
     sampled: &SvView<'_>,
 ) -> Result<bool, AllocError>
-    ensures tells { IfOk result (λ found. TellsSights heading (period_by losses.old) (kept_by losses.old) (map (sight_of_asdu (kept_by losses.old).moment app_id source) (asdus_left {A = Unit {0}} sampled.now.asdus)) out.old.items found out.new.items (kept_by losses.new)) }
+    ensures tells { IfOk result (λ found. TellsSights heading (period_by losses.old) (kept_by losses.old) (map (sight_of_asdu (kept_by losses.old).moment app_id source) (asdus_left {A = Unit {0}} sampled.now.asdus))
+        out.old.items found out.new.items (kept_by losses.new)) }
     ensures period { period_by losses.new ≡ period_by losses.old }
     ensures wants { OnErr result (WantsFor heading (period_by losses.old) (kept_by losses.old) (map (sight_of_asdu (kept_by losses.old).moment app_id source) (asdus_left {A = Unit {0}} sampled.now.asdus))) }
     ensures kept { take (length out.old.items) out.new.items ≡ out.old.items }

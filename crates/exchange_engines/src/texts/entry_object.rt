@@ -164,7 +164,8 @@ fn put_act_fields<A: Allocator>(
     state: u32,
     sequence: u32,
 ) -> Result<(), AllocError>
-    ensures { AppendsText result out.old.items out.new.items (onward (time_fields (codes "t") (codes "tTime") (codes "tQuality") t ++ (codes "delay", signed_decimal (delay_from t moment)) ∷ pair_fields state sequence) ++ codes ",\"members\":") }
+    ensures { AppendsText result out.old.items out.new.items (onward (time_fields (codes "t") (codes "tTime") (codes "tQuality") t
+        ++ (codes "delay", signed_decimal (delay_from t moment)) ∷ pair_fields state sequence) ++ codes ",\"members\":") }
 {
     put_time_fields(out, b",\"t\":", b",\"tTime\":", b",\"tQuality\":", t)?;
     put_delay_fields(out, t, moment, state, sequence)
@@ -205,7 +206,8 @@ fn put_refused_object<A: Allocator>(
     block: usize,
     reason: Reason,
 ) -> Result<(), AllocError>
-    ensures { AppendsText result out.old.items out.new.items (object_line (entry_fields heading.now.counted heading.now.blocks.now heading.now.number heading.now.moment (codes "refused") block ++ (codes "reason", in_quotes (name_of_reason reason)) ∷ [])) }
+    ensures { AppendsText result out.old.items out.new.items (object_line (entry_fields heading.now.counted heading.now.blocks.now heading.now.number heading.now.moment (codes "refused") block
+        ++ (codes "reason", in_quotes (name_of_reason reason)) ∷ [])) }
 {
     put_entry_object_head(out, heading, b"refused", block)?;
     put_field_word(out, b",\"reason\":", reason_name(reason))?;
