@@ -1,5 +1,5 @@
 -- What a run of `losses` over a reader leaves of what the input of the reader says.
-use Rattle.std.proofs.Common.{Option, Some, Err, ◌≡◌, ◌⊎◌, ℕ, true, List, inl, inr, ap, ap₂, sym, ◌∙◌, subst}
+use Rattle.std.proofs.Common.{Option, ◌≡◌, ◌⊎◌, ℕ, List, inl, inr, ap, ap₂, sym, ◌∙◌, subst}
 use Rattle.list_core.specs.declared.device.InputEnd.{InputEnd}
 use Rattle.list_core.specs.declared.device.InputEnd.TheVariants.{Failed}
 use Rattle.list_core.specs.declared.event.Event.{Event}

@@ -7,8 +7,9 @@ ghost use Rattle.loss_engine.specs.KeySaid.{key_said, sender_said, stream_said};
 ghost use Rattle.object_core.specs.declared.counted.Form.{Form};
 ghost use Rattle.loss_engine.specs.computed.Closing.{IsClosingAt, closing_item};
 ghost use Rattle.loss_engine.specs.computed.Entries.{IsPeriodOf, progress_of};
-ghost use Rattle.loss_engine.specs.computed.Tracking.{CountsAs, Progress as Known, TellsSample, back_by, back_where, came_in, frames, first_samples, kept_none};
-ghost use Rattle.loss_engine.specs.computed.Tracking.{known_of, more_frames, more_samples, passed, sender_of, silences_by, totals_by, with_progress};
+ghost use Rattle.loss_engine.specs.Sights.{sample};
+ghost use Rattle.loss_engine.specs.computed.Tracking.{CountsAs, Progress as Known, TellsSample, back_by, back_where, came_in};
+ghost use Rattle.loss_engine.specs.computed.Tracking.{frames, first_samples, kept_none, known_of, more_frames, passed, sender_of, silences_by, totals_by, track, with_progress};
 
 use crate::closing::Closing;
 use crate::entry::{Entry, Progress, first_told};
@@ -216,11 +217,8 @@ impl<A: Allocator + Copy> Losses<A> {
         synch: u8,
     ) -> Result<(Option<Came>, Option<u8>), AllocError>
         ensures told { IfOk result (λ r. CountsAs (period_by self.old) (known_of (kept_by self.old).tracked (stream_said key.entry)) (record { count = count; moment = (kept_by self.old).moment }) r) }
-        ensures kept { OnOk result (kept_by self.new ≡ record (kept_by self.old) {
-          tracked = with_progress (kept_by self.old).tracked (stream_said key.entry)
-              (first_samples (period_by self.old) (record { count = count; moment = (kept_by self.old).moment }) synch)
-              (more_samples (record { count = count; moment = (kept_by self.old).moment }) synch);
-        }) }
+        ensures kept { OnOk result (kept_by self.new ≡ record (kept_by self.old)
+            { tracked = track (period_by self.old) (kept_by self.old).tracked (record { key = stream_said key.entry; moment = (kept_by self.old).moment; shown = sample count synch }) }) }
         ensures period { period_by self.new ≡ period_by self.old }
         ensures wants { OnErr result (known_of (kept_by self.old).tracked (stream_said key.entry) ≡ None) }
     {
