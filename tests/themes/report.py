@@ -3,6 +3,7 @@ and is put in its place only when it is whole."""
 import collections
 import contextlib
 import hashlib
+import itertools
 import json
 import os
 import pathlib
@@ -36,8 +37,13 @@ HEADINGS = ["Summary", "The trip", "Events acted on", "Picture", "Losses, silenc
 # The states of a line of the summary, by the class of its element, the worst first; and the statuses of a page.
 STATES, STATUSES = ("found", "unjudged", "clean"), {"found": 1, "unjudged": 6, "clean": 0}
 BLOCKS, STREAMS = "Control blocks (GOOSE)", "Streams (Sampled Values)"
-# A capture of 500,000 packets: at most so many seconds beside the program's own, and so many kilobytes.
-PACKETS, MOST_SECONDS, MOST_MEMORY = 500000, 10, 200 * 1024
+# A page of 500,000 packets takes at most 60 MB, and 8 s of one processor of a quiet machine beside the program. The measure of the time is what this
+# Python takes to read the lines that goose show writes of them as JSON, each once, since that grows with the page's where the machine is busy or slow.
+# The page takes 1.0 to 1.3 times as long on a busy machine. The one before, which took 2.1 times, took some 4.7 s on a quiet one: so 8 s are 3.5 times,
+# and the bound is half of that. A page that reads each line twice more takes 2.9 times.
+PACKETS, MOST_READINGS, MOST_MEMORY = 500000, 1.8, 60 * 1024
+# Of so many lines one is read.
+READ = 10
 
 
 # An earlier page, by what a page has near its head.
@@ -706,7 +712,8 @@ def long_capture():
 
 
 class Fast:
-    """A page of 500,000 packets takes little processor time and memory beside the program."""
+    """A page of 500,000 packets takes little processor time and memory beside the program: the time by what reading the lines of goose show takes
+    before it and after it."""
 
     name = "a page of 500,000 packets"
 
@@ -715,11 +722,27 @@ class Fast:
         with tempfile.TemporaryDirectory() as folder:
             folder = pathlib.Path(folder)
             (folder / "long.pcap").write_bytes(long_capture())
-            own = self.seconds_of(program, folder / "long.pcap")
+            own, lines = self.seconds_of(program, folder / "long.pcap"), self.some_lines(program, folder / "long.pcap")
+            before = self.reading(lines)
             spent, peak, status = self.measured(program, folder)
-        why = [] if spent - own <= MOST_SECONDS else [f"it takes {spent:.1f} s, and the program {own:.1f} s of these"]
+            reading = (before + self.reading(lines)) / 2
+        told = f"it takes {spent - own:.1f} s beside the program's {own:.1f} s, and reading its lines as JSON {reading:.1f} s"
+        why = [] if spent - own <= MOST_READINGS * reading else [told]
         why += [] if peak <= MOST_MEMORY else [f"it takes {peak} kB"]
         return why + ([] if status == 1 else [f"ended with status {status}"])
+
+    def some_lines(self, program, capture):
+        """Some lines of goose show, from the first to the last packet."""
+        with open(capture, "rb") as given, subprocess.Popen([*program, "show", *OPTIONS], stdin=given, stdout=subprocess.PIPE,
+                                                            stderr=subprocess.DEVNULL) as shown:
+            return list(itertools.islice(shown.stdout, 0, None, READ))
+
+    def reading(self, lines):
+        """The processor time for all lines of which these are some."""
+        before = time.process_time()
+        for line in lines:
+            json.loads(line)
+        return (time.process_time() - before) * READ
 
     def seconds_of(self, program, capture):
         """The processor time of the program's own runs."""

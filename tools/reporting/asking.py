@@ -63,9 +63,11 @@ class Asked:
         with contextlib.suppress(OSError):
             fcntl.fcntl(pipe, PIPE_SIZE, 16 * PIECE)
         while piece := self.piece(what, pipe, given, last, size):
-            *whole, rest = (rest + piece).split(b"\n")
-            yield whole
-            last = whole[-1] if whole else last
+            whole = (rest + piece).split(b"\n")
+            rest = whole.pop()
+            if whole:
+                yield whole
+                last = whole[-1]
         if rest:
             yield [rest]
         return rest or last
@@ -78,7 +80,7 @@ class Asked:
             self.progress.tell(what, done, self.packets)
             if select.select([pipe], [], [], EVERY)[0]:
                 break
-        return os.read(pipe.fileno(), 16 * PIECE)
+        return os.read(pipe.fileno(), 8 * PIECE)
 
     def end(self, command, status, last, said):
         """A run that has ended: with an error of the capture, or without one."""

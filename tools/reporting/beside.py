@@ -25,12 +25,12 @@ class Beside:
     def __init__(self, path, progress):
         self.path, self.name, self.here, self.taps, self.compared = path, os.path.basename(path), Side("this capture"), Taps(progress), None
 
-    def noting(self, lines):
-        for line in lines:
-            found = HEAD.match(line)
-            if found and found[4] != b"capture":
-                self.here.see(found)
-            yield line
+    def noting(self, parts):
+        for lines in parts:
+            for found in filter(None, map(HEAD.match, lines)):
+                if found[4] != b"capture":
+                    self.here.see(found)
+            yield lines
 
     def compare(self):
         """Reads the other capture."""
@@ -48,8 +48,8 @@ def asked(path, progress):
     return Beside(path, progress) if path else None
 
 
-def noting(beside, lines):
-    return beside.noting(lines) if beside else lines
+def noting(beside, parts):
+    return beside.noting(parts) if beside else parts
 
 
 def first_of(packets):

@@ -1,5 +1,5 @@
 """What an SCL file configures, held beside what a capture has."""
-import data_types
+import sample_values
 import senders
 from reporting import unread
 from reporting.pace import Pace
@@ -10,7 +10,7 @@ class Configured:
     """The control blocks and streams of an SCL file, those of which it cannot be told what they send, and the values that cannot be read."""
 
     def __init__(self, path):
-        self.path, self.station = path, data_types.Station(path)
+        self.path, self.station = path, sample_values.Station(path)
         self.senders, self.unusable, self.used, self.longest, self.times = {}, [], set(), {}, {}
         self.unread, self.why_not = {}, {}
         for control in self.station.controls:

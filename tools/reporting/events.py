@@ -5,9 +5,12 @@ import re
 
 import member_names
 from reporting import page
+from reporting.alike import heads_of
 from reporting.places import HEAD, place
 
 ENTRY = re.compile(HEAD.pattern + rb',"block":(\d+),')
+# How much of a line from its kind on tells that and the block.
+TELLING = 36
 # What a line ends with that tells of a frame of Sampled Values: most of many captures.
 SAMPLED = b'"kind":"sampled"}'
 REASON = re.compile(rb'"reason":"(\w+)"')
@@ -18,7 +21,10 @@ FIRST = [*COLUMNS[:-1], page.Column("Members")]
 KINDS = ("act", "refreshed", "repeated", "old", "refused", "expired", "switched")
 STATE = ("stNum", "sqNum", "delay", "tQuality")
 # The kinds that are no events: most entries of many captures.
-RENEWALS, MEMBERS = (b"refreshed", b"repeated"), b',"members":'
+RENEWALS, ACT = (b"refreshed", b"repeated"), b'act"'
+# What an entry that is acted on says behind its head and up to its members, and how many texts of members of a block are held.
+STATE_TOLD = re.compile(rb',"tQuality":(\{[^}]*\}),"delay":(-?\d+),"stNum":(\d+),"sqNum":(\d+),"members":')
+MOST_TOLD = 8
 OTHERS = {"expired": "expired: valid data ends", "switched": "switched between real and simulated frames", "refused": "refused", "old": "old"}
 RESTART = "a device may act here: restart within the lifetime"
 HOUR = 3600 * 10**6
@@ -44,20 +50,25 @@ class Counted:
 class Block:
     """What a device does with one control block."""
 
-    text = told = None
-
-    def read(self, line):
-        """The object of a state. Members of the same text as those before are not read again."""
-        at = line.find(MEMBERS)
-        if at < 0:
+    def read(self, line, at):
+        """The object of a state, from behind its head on. Members of a text that was read are not read again."""
+        found = STATE_TOLD.search(line, at)
+        if not found:
             return json.loads(line)
-        text = line[at + len(MEMBERS):-1]
-        if text != self.text:
-            self.text, self.told = text, json.loads(text)
-        return {**json.loads(line[:at] + b"}"), "members": self.told}
+        quality, delay, state, sequence = found.groups()
+        text = line[found.end():-1]
+        if text not in self.told:
+            if len(self.told) >= MOST_TOLD:
+                self.told.clear()
+            self.told[text] = json.loads(text)
+        if quality not in self.qualities:
+            self.qualities[quality] = json.loads(quality)
+        return {"tQuality": self.qualities[quality], "delay": int(delay), "stNum": int(state), "sqNum": int(sequence), "members": self.told[text]}
 
     def __init__(self, record):
         self.appid, self.name, self.counts, self.members = record["appid"], record["gocbRef"], {}, None
+        # The last members by their texts, and qualities of t.
+        self.told, self.qualities = {}, {}
         # Of the counts those that are findings: how many, and the first packet.
         self.findings = {}
         self.names, self.event = member_names.NONE, None
@@ -75,18 +86,25 @@ class Block:
 
 
 class Renewal:
-    """Entries of one kind of a block that are no event, behind the first: they are counted, and marked in the picture."""
+    """Entries of one kind of a block that are no event, behind the first: they are counted, and marked in the picture. Up to a moment no further
+    mark is to be seen: of lines up to there the last is held, and how many they are."""
 
-    __slots__ = ("kind", "counted", "key", "picture", "until")
+    __slots__ = ("kind", "counted", "key", "picture", "until", "number", "line")
 
     def __init__(self, kind, block, picture):
         self.kind, self.counted, self.key, self.picture, self.until = kind, block.counts[kind, None], (block.appid, block.name), picture, 0
+        self.number, self.line = 0, None
 
     def see(self, found, moment):
         self.counted.number += 1
-        self.counted.last = found
+        self.counted.last, self.line = found, None
         if moment >= self.until or not self.picture.is_marked(self.key, moment):
             self.until = self.picture.mark(self.key, self.kind, moment, None, None) or 0
+
+    def end(self):
+        """Takes the lines that were not looked at."""
+        self.counted.number += self.number
+        self.counted.last = ENTRY.match(self.line) if self.line else self.counted.last
 
 
 class Event:
@@ -130,20 +148,64 @@ class Events:
         self.excuse = excuse or (lambda block, kind, found: None)
         self.blocks, self.acts, self.first, self.last, self.slowest = {}, 0, None, None, None
         self.listed, self.beyond, self.more, self.firsts, self.started, self.restarted = [], None, 0, [], 0, None
-        self.most = most
+        # The renewals by what their lines tell of kind and block, and those of each block.
+        self.renewals, self.of_block, self.most = {}, {}, most
 
-    def see(self, lines):
-        lines, renewals = (line for line in lines if not line.endswith(SAMPLED)), {}
-        for found in filter(None, map(ENTRY.match, lines)):
-            key = found.group(4, 5)
-            renewal = renewals.get(key)
-            if renewal and not self.comments:
-                renewal.see(found, int(found[2]))
-                continue
-            self.entry(found.string, found, int(key[1]))
-            if key[0] in RENEWALS and key not in renewals:
-                renewals[key] = Renewal(key[0].decode(), self.blocks[int(key[1])], self.picture)
+    def see(self, parts):
+        """The lines of goose replay, some at once."""
+        for lines in parts:
+            lines = [line for line in lines if not line.endswith(SAMPLED)]
+            heads = None if self.comments else heads_of(lines)
+            times = heads and list(map(int, heads.times))
+            if times and times[0] >= self.picture.now and times == sorted(times):
+                self.see_many(heads, times)
+            else:
+                self.see_each(lines)
         self.comment(None)
+        for it in self.renewals.values():
+            it.end()
+
+    def see_each(self, lines):
+        for found in filter(None, map(ENTRY.match, lines)):
+            begin = found.start(4)
+            self.see_entry(found, found.string[begin:begin + TELLING])
+
+    def see_many(self, heads, times):
+        """Lines in the order of their times: of renewals that leave no further mark in the picture, and that come before what is drawn around the
+        next state that is acted on, the heads alone are looked at."""
+        renewals, begin, until = self.renewals, heads.until, heads.until + TELLING
+        keys = [line[begin:until] for line in heads.lines]
+        acts = iter([*(at for at, key in enumerate(keys) if key.startswith(ACT)), len(keys)])
+        act, free = next(acts), None
+        for at, (key, now, line) in enumerate(zip(keys, times, heads.lines)):
+            if free is None:
+                while act < at:
+                    act = next(acts)
+                free = self.picture.free(times[min(act, len(keys) - 1)])
+            renewal = renewals.get(key)
+            if renewal is not None and now < renewal.until and now < free:
+                renewal.number += 1
+                renewal.line = line
+            else:
+                found, free = ENTRY.match(line), None
+                if found:
+                    self.see_entry(found, key)
+        self.picture.now = times[-1]
+
+    def see_entry(self, found, key):
+        """An entry, and what its line tells of its kind and block. Any but a renewal can change what a mark of one means."""
+        renewal, position = self.renewals.get(key), int(found[5])
+        if renewal and not self.comments:
+            renewal.see(found, int(found[2]))
+            return
+        self.entry(found.string, found, position)
+        own = self.of_block.setdefault(position, [])
+        if found[4] not in RENEWALS:
+            for it in own:
+                it.until = 0
+        elif renewal is None:
+            self.renewals[key] = Renewal(found[4].decode(), self.blocks[position], self.picture)
+            own.append(self.renewals[key])
 
     def entry(self, line, found, position):
         kind = found[4].decode()
@@ -160,7 +222,7 @@ class Events:
             block.find(sort, int(found[1]))
         state = None
         if kind == "act":
-            state = self.act(block.read(line), block, place(found))
+            state = self.act(block.read(line, found.end()), block, place(found))
         elif kind in OTHERS:
             self.other(kind, sort[1], block, line, place(found), excused)
         self.picture.mark((block.appid, block.name), kind, int(found[2]), state, int(found[1]), block.counts["act", None].number == 1 if state else False)

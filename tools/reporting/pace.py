@@ -16,15 +16,15 @@ class Pace:
     def __init__(self):
         self.state, self.number, self.sequence, self.at, self.longest, self.over = b"", None, 0, None, {}, []
 
-    def see(self, found, state, sequence, now, gaps):
-        """A frame: its fields up to stNum, and its sqNum. Copies are passed over."""
+    def see(self, packet, state, sequence, now, gaps):
+        """A frame: its packet, its fields up to stNum, and its sqNum. Copies are passed over."""
         number = self.number if state == self.state else int(state[state.rindex(NUMBER) + len(NUMBER):])
         if (number, sequence) == (self.number, self.sequence):
             return
         is_next = (number, sequence) == (self.number, self.sequence + 1)
         if self.at is not None and now > self.at and (is_next or (number, sequence) == (self.number + 1, 0)):
             kinds = (FIRST, ANY) if is_next and sequence == 1 else (ANY,)
-            told = kinds, now - self.at, int(found[1])
+            told = kinds, now - self.at, packet
             if not gaps or gaps[-1].after <= self.at:
                 self.note(*told)
             elif len(self.over) < MOST:

@@ -1,6 +1,7 @@
 """Pictures on a time axis as SVG: lanes of control blocks and streams one above another, and a second picture of each burst of events."""
 import bisect
 import collections
+import math
 
 from output import date
 from reporting import page
@@ -128,7 +129,7 @@ class Picture:
 
     def mark(self, key, kind, moment, state, packet, is_first=False):
         """An entry of a control block. Times that go back count as the greatest so far. The first state of a block begins no burst. Answered is up to
-        when entries of this kind have its place, or 0."""
+        when entries of this kind have its place."""
         if moment > self.now:
             self.now = moment
         now, lane, label = self.now, self.lanes.get(key) or self.lane(key, key[1]), "" if state is None else str(state)
@@ -139,11 +140,13 @@ class Picture:
         x = lane.mark(kind, now, label)
         if self.recent is not None:
             self.recent.append((lane, kind, now, label))
-        elif not self.burst:
-            return self.axis.until(x)
         if self.burst and len(self.burst.marks) < MOST_MARKS:
             self.burst.marks.append((lane, kind, now, label))
-        return 0
+        return self.axis.until(x)
+
+    def free(self, moment):
+        """Up to when an entry that is no event, at a place that is marked, changes nothing, if the next other entry comes at a moment."""
+        return 0 if self.burst else math.inf if self.recent is None else moment - BEFORE
 
     def is_marked(self, key, moment):
         """Whether an entry that is no event, at a moment before the last answer of `mark` for its kind, changes nothing."""

@@ -138,19 +138,20 @@ class Recorded:
 
     def records(self, octets):
         """Takes the records of a classic capture that begin in these octets, and answers where the next one begins."""
-        at, sizes, it = 0, self.fields.sizes, self.interfaces[0]
-        while at + 16 <= len(octets) and self.numbers < self.most:
+        at, last, number, sizes, it = 0, len(octets) - 16, self.numbers, self.fields.sizes, self.interfaces[0]
+        while at <= last and number < self.most:
             captured, original = sizes(octets, at + 8)
-            if self.numbers + 1 == self.wanted and at + 16 + min(captured, HEAD) > len(octets):
-                break
-            self.numbers += 1
-            if self.numbers == self.wanted:
+            if number + 1 == self.wanted:
+                if at + 16 + min(captured, HEAD) > len(octets):
+                    break
+                self.numbers = self.wanted
                 self.look(octets, at + 16, captured)
+            number += 1
             if captured < original:
-                self.cut.add(self.numbers)
+                self.cut.add(number)
             at += 16 + captured
-        self.is_over = self.numbers >= self.most
-        it.packets, it.first, it.last = self.numbers, 1 if self.numbers else None, self.numbers or None
+        self.numbers, self.is_over = number, number >= self.most
+        it.packets, it.first, it.last = number, 1 if number else None, number or None
         return at
 
     def blocks(self, octets):
@@ -175,19 +176,28 @@ class Recorded:
     def usual(self, octets, at):
         """Takes the packets in usual blocks that begin there: whole ones without options of which nothing is looked at. Answered is where another
         block begins."""
-        numbers, section, size_of_all, whole = self.numbers, self.section, len(octets), self.fields.whole
+        numbers, section, last, whole = self.numbers, self.section, len(octets) - 32, self.fields.whole
         until = self.most if self.wanted is None else min(self.most, self.wanted - 1)
-        while numbers < until and at + 32 <= size_of_all and not self.is_over:
+        it, before, which_before = None, numbers, None
+        while numbers < until and at <= last and not self.is_over:
             kind, size, which, _, _, captured, original = whole(octets, at)
-            if (kind != PACKET or size % 4 or not 32 <= size <= 36 + captured or captured < original or at + size > size_of_all
-                    or which >= len(section)):
+            if kind != PACKET or size % 4 or not 32 <= size <= 36 + captured or captured < original or at + size > len(octets):
                 break
+            if which != which_before:
+                if which >= len(section):
+                    break
+                self.count(it, before, numbers)
+                it, before, which_before = section[which], numbers, which
             numbers += 1
-            it = section[which]
-            it.packets, it.first, it.last = it.packets + 1, it.first or numbers, numbers
             at += size
+        self.count(it, before, numbers)
         self.numbers = numbers
         return at
+
+    def count(self, it, before, numbers):
+        """Packets one after another of one interface: those after one number up to another."""
+        if numbers > before:
+            it.packets, it.first, it.last = it.packets + numbers - before, it.first or before + 1, numbers
 
     def block(self, kind, octets, at, size):
         if kind == SECTION:

@@ -18,6 +18,8 @@ SECOND = 10**6
 # smpCnt and the sample of each ASDU.
 SAMPLES = re.compile(rb'"smpCnt":(\d+),"confRev":\d+,"refrTm":(?:null|"[^"]*","refrTime":(?:null|"[^"]*"),"refrQuality":\{[^}]*\}),'
                      rb'"smpSynch":\d+,"smpRate":\w+,"sample":"([0-9a-f]*)"')
+# The octets of a word: in fewer no channel is known but by a data set.
+FEWEST_OCTETS = 4
 # How many samples of a stream are looked at together.
 BATCH = 512
 # The most streams that are looked at, spans of one stream that are told, and octets that are held until a rate is known.
@@ -152,6 +154,19 @@ class Wave:
         if self.waiting >= 2 * BATCH:
             self.look()
 
+    def see_all(self, counts, octets, times, packets):
+        """What frames one after another say, each of as many samples: at once where these are simply the next ones."""
+        self.look()
+        each = len(counts) // len(times)
+        if self.layout is not None and set(map(len, octets)) == {2 * self.size}:
+            index = self.counted.first_of(counts, times)
+            if index is not None:
+                self.append(index, binascii.unhexlify(b"".join(octets)), range(index, index + len(counts), each), zip(itertools.repeat(None), times, packets))
+                return
+        told = [it for pair in zip(counts, octets) for it in pair]
+        for at, (now, packet) in enumerate(zip(times, packets)):
+            self.see(told[2 * each * at:2 * each * (at + 1)], now, packet)
+
     def look(self):
         """Looks at the frames that wait."""
         frames, self.frames, self.waiting = self.frames, [], 0
@@ -182,6 +197,10 @@ class Wave:
         rate = self.told.rate_of(self.seen)
         if rate.period is None:
             self.why = rate.why
+            self.head.clear()
+            return
+        if self.size < FEWEST_OCTETS and not self.told.layout_of(self.seen, self.size, False).channels:
+            self.why = f"of samples of {self.size} octets it is not known what they say"
             self.head.clear()
             return
         self.rate, head, self.head = rate.period, self.head, []
@@ -263,6 +282,7 @@ class Wave:
 
     def append(self, index, octets, firsts, frames):
         """Samples one after another, with the first of each frame."""
+        frames = list(frames)
         if self.start is None:
             self.start, self.begun = index, frames[0][1]
         elif index != self.start + len(self.octets) // self.size:
@@ -442,8 +462,8 @@ class Wave:
 class Samples:
     """The streams whose samples are looked at, and what is known of each from elsewhere: its rate and its layout."""
 
-    def __init__(self, rate_of, station_of, frequency=None, channels=None):
-        self.rate_of, self.station_of, self.frequency, self.channels = rate_of, station_of, frequency, channels or {}
+    def __init__(self, rate_of, station=None, frequency=None, channels=None):
+        self.rate_of, self.station, self.frequency, self.channels = rate_of, station, frequency, channels or {}
         # The waves of streams, how many streams more there are, and whether there can be a trip: else no greatest value is asked for.
         self.waves, self.more, self.has_trips = {}, {}, True
 
@@ -457,27 +477,37 @@ class Samples:
         for _, stream in sort.streams:
             self.put(stream, [it for name, *pair in pairs if name == stream.text for it in pair], now, packet)
 
+    def see_all(self, sort, counts, octets, run):
+        """Frames of one stream, one after another."""
+        wave = sort.wave = sort.wave or self.wave_of(sort.streams[0][1])
+        if wave and not wave.why:
+            wave.see_all(counts, octets, run.times, run.packets)
+
     def put(self, stream, told, now, packet):
         """What a frame says of a stream. The wave of it is answered, or None."""
-        wave = self.waves.get(stream)
-        if wave is None:
-            if len(self.waves) >= MOST_STREAMS:
-                self.more[stream] = None
-                return None
-            wave = self.waves[stream] = Wave(stream, self)
-        if told:
+        wave = self.wave_of(stream)
+        if wave and told:
             wave.see(told, now, packet)
+        return wave
+
+    def wave_of(self, stream):
+        """The wave of a stream, or None where there are too many."""
+        wave = self.waves.get(stream)
+        if wave is None and len(self.waves) >= MOST_STREAMS:
+            self.more[stream] = None
+        elif wave is None:
+            wave = self.waves[stream] = Wave(stream, self)
         return wave
 
     def layout_of(self, seen, size, are_pairs):
         """The layout of a stream. Channels that are asked for all streams are of those of that many."""
         told = self.channels.get(seen.name, self.channels.get(""))
         try:
-            return sample_values.of_stream(seen.name, seen.appid, size, are_pairs, self.station_of(), told)
+            return sample_values.of_stream(seen.name, seen.appid, size, are_pairs, self.station, told)
         except Ended:
             if seen.name in self.channels:
                 raise
-            return sample_values.of_stream(seen.name, seen.appid, size, are_pairs, self.station_of())
+            return sample_values.of_stream(seen.name, seen.appid, size, are_pairs, self.station)
 
     def end(self):
         for it in self.waves.values():

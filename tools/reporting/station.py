@@ -1,14 +1,17 @@
 """Which control blocks and streams a capture has, and how they are sent: from goose blocks and goose show."""
+import bisect
+import itertools
 import json
 import re
 
 import senders
 from output import date
+from reporting.alike import TELLING, Run, Shape, heads_of, parted, those
 from reporting.clocks import Clock
 from reporting.malformed import Malformed
 from reporting.places import HEAD, Place, Span, place
 from reporting.rates import STRETCH, Rise
-from reporting.sequence import NUMBER, Sequences
+from reporting.sequence import GREATEST, NUMBER, Sequences
 from reporting.synchronised import Synch
 from reporting.times import SECOND, Times
 from reporting.wraps import TOP, TOP_STATE, Wraps
@@ -25,8 +28,16 @@ DIFFERS = {b"smpCnt": rb'"smpCnt":(\d+)', b"refrTm": rb'"refrTm":"[^"]*","refrTi
 DIFFERENT = re.compile(b"|".join(DIFFERS.values()))
 # After how many frames of a sort it pays to know the next ones by a pattern of their own.
 MANY = 100
-# How many sorts of frames are held before they are added up.
-MOST_SORTS = 10000
+# How many sorts of frames are held before they are added up, and how many shapes of lines.
+MOST_SORTS, MOST_SHAPES = 10000, 2000
+# Of how many lines it pays to look at those of one sender together, of how many of these at all at once, at how many at most, and of how many to try it
+# in parts; and for how many lines it is not tried where it was in vain; how often that was so, and the lines for which it is not tried. Where most of
+# some lines were looked at one by one, the next ones are too, so often.
+FEWEST, FEW, MOST_TOGETHER, PARTED, LINES, UNTRIED, SKIPS = 64, 6, 256, 32, 64, (0, 0), 8
+# The shape of lines that are looked at one by one alone; and with what the kind of a frame with an error begins.
+NONE, FAULT = False, b'fault"'
+# The greatest number of a frame as it is written.
+GREATEST_TEXT = b"%d" % GREATEST
 # How many forms of one sender are told.
 MOST_FORMS = 50
 # The bit of Reserved 1 that says that a frame is simulated.
@@ -116,6 +127,9 @@ class Station:
         self.seen, self.sorts, self.flows, self.kinds, self.clocks, self.times = {}, {}, {}, {}, {}, Times()
         self.sequences, self.malformed, self.wraps = Sequences(), Malformed(), Wraps()
         self.first, self.last, self.span = None, None, None
+        # How lines of each sender are laid out; and by their kind what looks at one, at many of one shape, and what tells the shape of one.
+        self.shapes, self.tried, self.alone, self.skips, self.looks = {}, {}, 0, 0, {b"goose": self.goose, b"sv": self.sampled, b"fault": self.fault}
+        self.alike, self.shape_of = {b"goose": self.states_alike, b"sv": self.samples_alike}, {b"goose": self.shape_of_goose, b"sv": self.shape_of_sampled}
 
     def see_blocks(self, lines):
         """The lines of goose blocks: of a control block its forms."""
@@ -128,32 +142,85 @@ class Station:
     def sender(self, kind, key, name, appid):
         return self.seen.setdefault((kind, *key), Seen(kind, key, name, appid))
 
-    def see_frames(self, lines):
-        """The lines of goose show."""
-        first = found = top = None
-        least = greatest = 0
-        kinds, looks = self.kinds, {b"goose": self.goose, b"sv": self.sampled, b"fault": self.fault}
+    def see_frames(self, parts):
+        """The lines of goose show, some at once."""
+        for lines in parts:
+            self.see_part(lines)
+        self.add_up()
+        times = self.times
+        self.first, self.last = times.first and place(times.first), times.last and place(times.last)
+        self.span = times.span
+        self.wraps.end(times.greatest)
+
+    def see_part(self, lines):
+        """Some lines: those of one sender together where their times are usual, others one by one."""
+        self.skips -= self.skips > 0
+        heads = heads_of(lines) if len(lines) >= FEWEST and not self.skips else None
+        if not heads or int(heads.last[1]) - int(heads.first[1]) != len(lines) - 1:
+            self.see_each(lines)
+            return
+        groups, times = parted([line[heads.until:heads.until + TELLING] for line in lines]), list(map(int, heads.times))
+        faults = [at for key, places in groups.items() if key.startswith(FAULT) for at in places]
+        alone = sorted({*faults, *self.times.odd(times)})
+        if alone:
+            self.see_between(lines, alone)
+            return
+        self.times.see_all(heads, times)
+        first, self.alone = int(heads.first[1]), 0
+        for key, places in groups.items():
+            kind = key[:key.index(b'"')]
+            self.kinds[kind] = self.kinds.get(kind, 0) + len(places)
+            if kind in self.looks:
+                run = Run(those(lines, places), those(times, places), places, first, heads.until)
+                parts = run.by_size() if len(places) >= FEW else ()
+                if len(parts) * FEW > len(places) or not parts:
+                    self.see_lines(kind, run)
+                else:
+                    for part in parts:
+                        self.see_run(kind, key, part)
+        self.skips = SKIPS if 2 * self.alone > len(lines) else 0
+
+    def see_between(self, lines, places):
+        """The lines at some places one by one, and those between these in parts."""
+        for begin, at in zip([0, *(it + 1 for it in places)], [*places, len(lines)]):
+            self.see_part(lines[begin:at])
+            self.see_each(lines[at:at + 1])
+
+    def see_each(self, lines):
+        """Lines one by one."""
+        kinds, looks = self.kinds, self.looks
         for found in filter(None, map(HEAD.match, lines)):
             kind, now = found[4], int(found[2])
             kinds[kind] = kinds.get(kind, 0) + 1
-            if first is None:
-                first, least, greatest, top = found, now, now, found
-            ahead = now - greatest
-            if ahead > 0:
-                if ahead >= SECOND:
-                    self.times.gap(greatest, found)
-                greatest, top = now, found
-            elif ahead < 0:
-                least = min(now or least, least)
-                if ahead <= -SECOND:
-                    self.times.back(-ahead, found, top)
+            self.times.see(found, now)
             if kind in looks:
                 looks[kind](found, found.string, now)
-        self.add_up()
-        self.first, self.last = first and place(first), found and place(found)
-        self.span = (least or self.times.began, greatest) if found else None
-        self.wraps.end(greatest)
-        self.times.ends_back = bool(found) and 0 < int(found[2]) <= greatest - SECOND
+
+    def see_run(self, kind, sender, run):
+        """Lines of one sender and one size: at once, where they are of the shape that is known of these, and nothing else changes; else in parts,
+        and one by one. Where it was tried in vain again and again, it is not tried for some lines."""
+        key, number, (failed, waits) = (sender, len(run.lines[0])), len(run.lines), self.tried.get(sender, UNTRIED)
+        if number < FEW or waits > 0:
+            self.tried[sender] = failed, waits - number
+            self.see_lines(kind, run)
+            return
+        shape = self.shapes.get(key) if number <= MOST_TOGETHER else None
+        columns = shape and shape.columns(run.lines, run.until)
+        if columns and self.alike[kind](shape, columns, run):
+            self.tried[sender] = UNTRIED
+        elif number > PARTED and shape is not NONE:
+            for part in run.cut([number // 2 if key in self.shapes else FEW]):
+                self.see_run(kind, sender, part)
+        else:
+            self.see_lines(kind, run)
+            self.shapes[key] = self.shape_of[kind](run.lines[-1], run.until)
+            self.tried[sender] = failed + 1, LINES if failed else 0
+
+    def see_lines(self, kind, run):
+        """Lines of one sender one by one."""
+        looks, self.alone = self.looks[kind], self.alone + len(run.lines)
+        for found, now in zip(map(HEAD.match, run.lines), run.times):
+            looks(found, found.string, now)
 
     # ---- Frames --------------------------------------------------------------
 
@@ -172,7 +239,7 @@ class Station:
         state = line[until:upto]
         if sort.pace:
             begin = upto + len(b',"sqNum":')
-            sort.pace.see(found, state, int(line[begin:line.find(b",", begin)]), now, self.times.gaps)
+            sort.pace.see(int(found[1]), state, int(line[begin:line.find(b",", begin)]), now, self.times.gaps)
         if sort.sequence and sort.sequence.sort is not sort:
             sort.sequence.go_on(sort)
         if sort.sequence and (self.wraps.is_open or line.startswith(TOP, upto) or state.endswith(TOP_STATE)):
@@ -183,6 +250,30 @@ class Station:
                 sort.sequence.see(found, state)
             if sort.clock:
                 sort.clock.see(found, line, until)
+
+    def shape_of_goose(self, line, begin):
+        """The shape of lines like this one, of which sqNum alone changes. One after which a number can roll over has none."""
+        upto = line.find(b',"sqNum":', begin)
+        until, flags = line.rfind(b',"t":"', begin, upto), line.find(b',"simulation":', upto)
+        key = line[line.index(b",", begin) + 1:until], line[flags + 1:line.find(b',"members":', flags)]
+        state = line[until:upto]
+        return NONE if state.endswith(TOP_STATE) else Shape(self.sorts[key], line, begin, [(upto + len(b',"sqNum":'), flags)], state)
+
+    def states_alike(self, shape, columns, run):
+        """Frames of GOOSE of one state, if nothing else changes with them: whether it is so is answered."""
+        sort, (numbers,) = shape.sort, columns
+        if sort.state != shape.state or min(run.times) < sort.since or (sort.sequence and sort.sequence.sort is not sort):
+            return False
+        if self.wraps.is_open or GREATEST_TEXT in numbers:
+            return False
+        if sort.pace:
+            for packet, number, now in zip(run.packets, map(int, numbers), run.times):
+                sort.pace.see(packet, shape.state, number, now, self.times.gaps)
+        sort.number += len(run.lines)
+        sort.last = HEAD.match(run.lines[-1])
+        if sort.between.count != self.malformed.count:
+            self.malformed.between(sort.between, run.packets[0])
+        return True
 
     def sort_of_goose(self, key, found):
         """A new sort of frames of GOOSE. The clock of a simulated one is not judged."""
@@ -221,6 +312,37 @@ class Station:
             counts = COUNT.findall(line, until)
             for at, stream in sort.streams:
                 stream.rise.see(now, int(counts[at]))
+
+    def shape_of_sampled(self, line, begin):
+        """The shape of lines like this one, of which the counts and samples change, and what else does so from frame to frame. One of several
+        streams has none."""
+        until = line.find(b',"asdus":[', begin)
+        envelope = line[line.index(b",", begin) + 1:until]
+        sort = self.flows[envelope]
+        if len(sort.streams) > 1:
+            return NONE
+        found = list(DIFFERENT.finditer(line, until, line.rfind(b'],"trailer":')))
+        fields = [it.span(it.lastindex or 0) for it in found]
+        return Shape(sort, line, begin, fields, (envelope, *([at for at, it in enumerate(found) if it.lastindex == which] for which in (1, 2))))
+
+    def samples_alike(self, shape, columns, run):
+        """Frames of Sampled Values of one stream, if it is the sort of its last frame: whether it is so is answered."""
+        sort, (envelope, *fields) = shape.sort, shape.state
+        if self.flows.get(envelope) is not sort or list(run.times) != sorted(run.times):
+            return False
+        counts, octets = (columns[at[0]] if len(at) == 1 else list(itertools.chain.from_iterable(zip(*(columns[it] for it in at)))) for at in fields)
+        counts, (_, stream) = list(map(int, counts)), sort.streams[0]
+        sort.number += len(run.lines)
+        sort.last = HEAD.match(run.lines[-1])
+        if self.samples:
+            self.samples.see_all(sort, counts, octets, run)
+        each, at = len(fields[0]), 0
+        while at < len(run.times):
+            if not 0 <= run.times[at] - sort.since < STRETCH:
+                sort.since = run.times[at]
+                stream.rise.see(sort.since, counts[at * each])
+            at = bisect.bisect_left(run.times, sort.since + STRETCH, at + 1)
+        return True
 
     def sort_of_sampled(self, envelope, asdus, found):
         """The sort of a frame that is not known to be alike the one before."""
@@ -277,6 +399,8 @@ class Station:
                 it.note(it.forms, f"stream id={senders.quoted(it.name)} rev={sort.state[at][1].decode()}", first.packet)
         self.sorts.clear()
         self.flows.clear()
+        self.shapes.clear()
+        self.tried.clear()
 
     def add(self, seen, sort, is_simulated, first, last):
         """Adds frames of one sort to their sender."""

@@ -1,7 +1,9 @@
 """The clock of the capture itself: times that go back, and leaps after which all senders go on where they were."""
 import bisect
+import itertools
+import operator
 
-from reporting.places import place
+from reporting.places import HEAD, place
 
 SECOND = 10**6
 # How many runs of times that go back are told, and how many times without a packet are looked at.
@@ -63,8 +65,53 @@ class Times:
     first time behind some of these."""
 
     def __init__(self):
-        self.backs, self.gaps, self.number, self.ends_back = [], [], 0, False
+        self.backs, self.gaps, self.number = [], [], 0
         self.zeros, self.first_zero, self.began = 0, None, 0
+        # The first packet and the last, the least time and the greatest, and the packet of this.
+        self.first, self.last, self.least, self.greatest, self.top = None, None, 0, 0, None
+
+    def see(self, found, now):
+        """A packet."""
+        if self.first is None:
+            self.first, self.least, self.greatest, self.top = found, now, now, found
+        ahead = now - self.greatest
+        if ahead > 0:
+            if ahead >= SECOND:
+                self.gap(self.greatest, found)
+            self.greatest, self.top = now, found
+        elif ahead < 0:
+            self.least = min(now or self.least, self.least)
+            if ahead <= -SECOND:
+                self.back(-ahead, found, self.top)
+        self.last = found
+
+    def odd(self, times):
+        """The places of packets one after another whose times are a second or more before or after the greatest one so far."""
+        if self.first is None:
+            return [0]
+        least, greatest = min(times), max(times)
+        if max(greatest, self.greatest) - min(least, self.greatest) < SECOND:
+            return []
+        ahead = map(operator.sub, times, itertools.accumulate(times, max, initial=self.greatest))
+        return [at for at, it in enumerate(ahead) if not -SECOND < it < SECOND]
+
+    def see_all(self, heads, times):
+        """Packets one after another, of which none is odd."""
+        least, greatest = min(times), max(times)
+        self.least = min(self.least, least or self.least)
+        if greatest > self.greatest:
+            self.greatest, self.top = greatest, HEAD.match(heads.lines[times.index(greatest)])
+        self.last = heads.last
+
+    @property
+    def span(self):
+        """The least time and the greatest, or None without a packet."""
+        return (self.least or self.began, self.greatest) if self.last else None
+
+    @property
+    def ends_back(self):
+        """Whether the last packet's time is a second or more before the greatest one."""
+        return bool(self.last) and 0 < int(self.last[2]) <= self.greatest - SECOND
 
     def gap(self, before, found):
         """The packet before which no packet came for a second or more."""

@@ -75,20 +75,19 @@ class Trip:
         self.moments, self.recent, self.rises, self.changed = {}, collections.deque(maxlen=MOST_RECENT), collections.deque(), collections.deque()
         self.blocks = collections.Counter()
 
-    def noting(self, lines):
-        """The lines of goose show, of which that of the packet tells the moment."""
+    def noting(self, parts):
+        """The lines of goose show, some at once, of which that of the packet tells the moment."""
         if self.packet is None:
-            return lines
-        return self.looking(lines)
+            return parts
+        return self.looking(parts)
 
-    def looking(self, lines):
+    def looking(self, parts):
         wanted = b'{"packet":%d,' % self.packet
-        for line in lines:
-            if line.startswith(wanted):
-                found = HEAD.match(line)
-                time = found[3]
-                self.moments["packet"] = Moment(Place(self.packet, int(found[2]), time and time.decode()), None, ())
-            yield line
+        for lines in parts:
+            if "packet" not in self.moments:
+                for found in map(HEAD.match, [line for line in lines if line.startswith(wanted)][:1]):
+                    self.moments["packet"] = Moment(Place(self.packet, int(found[2]), found[3] and found[3].decode()), None, ())
+            yield lines
 
     def see(self, event):
         self.recent.append(event)
