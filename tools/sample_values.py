@@ -14,7 +14,9 @@ import struct
 
 import data_types
 import value_words
+from reporting import unread
 from reporting.rates import MODES
+from reporting.verdict import some
 from running import Ended
 
 # The forms of basic types in a sample (IEC 61850-9-2), all with the most significant octet first.
@@ -38,6 +40,8 @@ NO_FRONT = ("", "1", "-")
 DERIVED = 1 << 13
 VALIDITY = ("", "invalid", "invalid", "questionable")
 NUMBER = re.compile(r"[-+]?\d+")
+# A number of an SCL file (XML Schema, float) but for those that are infinite, or none.
+DECIMAL = re.compile(r"[-+]?(?:[0-9]+\.?[0-9]*|\.[0-9]+)(?:[eE][-+]?[0-9]+)?")
 
 
 # ---- Qualities ---------------------------------------------------------------
@@ -79,10 +83,10 @@ class Channel:
 
 
 class Layout:
-    """What the samples of a stream say: their channels, their octets, and by what this is known."""
+    """What the samples of a stream say: their channels, their octets, by what this is known, and what of that cannot be read."""
 
     def __init__(self, form, channels, values, qualities, why):
-        self.form, self.channels, self.why = form, channels, why
+        self.form, self.channels, self.why, self.unread = form, channels, why, []
         self.read = struct.Struct(f">{form}")
         self.at, self.at_quality = values, qualities
         self.values, self.take = taken(values), taken([it for it in qualities if it is not None])
@@ -165,6 +169,19 @@ def of_stream(svid, appid, size, are_pairs, station=None, channels=None):
 # ---- What an SCL file says ---------------------------------------------------
 
 
+class Stated(str):
+    """The text of a value, and its line."""
+
+    line = None
+
+
+def stated(text, parser):
+    """A text that is read there."""
+    text = Stated(text)
+    text.line = parser.CurrentLineNumber
+    return text
+
+
 class Station(data_types.Station):
     """A station with the values that scale what is sampled."""
 
@@ -190,7 +207,12 @@ class Station(data_types.Station):
         """What is said of the rate of a stream: smpRate, and what smpMod says of it."""
         stated = [it.stated for it in self.streams_named(svid, appid)]
         return [(int(it["smpRate"]), MODES[it.get("smpMod", "SmpPerPeriod")]) for it in stated
-                if it.get("smpRate", "").isdecimal() and it.get("smpMod", "SmpPerPeriod") in MODES]
+                if "smpRate" in it and not unread.RATE & {*unread.of_sampling(it)}]
+
+    def unread_rates(self, svid, appid=None):
+        """What is said of the rate of a stream and cannot be read."""
+        return [unread.Unread(control.line, name, control.stated[name], svid) for control in self.streams_named(svid, appid)
+                for name in unread.of_sampling(control.stated) if name in unread.RATE]
 
     def layout(self, control):
         """The layout of a control block's samples, or None where the size of a member is not known."""
@@ -202,9 +224,20 @@ class Station(data_types.Station):
         objects = [Object(self, control.owner, of, leaf) for of, leaf in leaves]
         qualities = {(it.node, it.steps): at for at, it in reversed(list(enumerate(objects))) if it.leaf.sort == "Quality"}
         values = [at for at, it in enumerate(objects) if it.leaf.sort not in UNTOLD]
-        return Layout("".join(FORMS[leaf.sort] for _, leaf in leaves), [objects[at].channel() for at in values], values,
-                      [qualities.get((objects[at].node, objects[at].steps)) for at in values],
-                      f"by the data set {control.stated.get('datSet')} of {control.told()} in {self.path}")
+        found = Layout("".join(FORMS[leaf.sort] for _, leaf in leaves), [objects[at].channel() for at in values], values,
+                       [qualities.get((objects[at].node, objects[at].steps)) for at in values],
+                       f"by the data set {control.stated.get('datSet')} of {control.told()} in {self.path}")
+        found.unread = unread_of([objects[at] for at in values], control.stated.get("smvID"))
+        return found
+
+
+def unread_of(objects, svid):
+    """The values that scale what is sampled and cannot be read, each once with the channels that it is of, and what is taken in its place."""
+    held = {}
+    for it in objects:
+        for told in it.unread:
+            held.setdefault(told, []).append(it.leaf.name)
+    return [unread.Unread(text.line, name, text, f"{svid} ({some(channels)})", instead) for (name, text, instead), channels in held.items()]
 
 
 def leaves_of(member):
@@ -217,7 +250,7 @@ class Object:
     """The data object of a member of one value: its logical node, the steps that lead to it, and what its attributes are."""
 
     def __init__(self, station, owner, stated, leaf):
-        self.station, self.leaf, self.sort = station, leaf, stated.get("lnClass", "")
+        self.station, self.leaf, self.sort, self.unread = station, leaf, stated.get("lnClass", ""), []
         self.node = (owner, *data_types.node_named(stated))
         self.parts, steps = station.types.nodes.get(station.nodes.get(self.node)), []
         name = "".join(stated.get(it) or "" for it in ("prefix", "lnClass", "lnInst"))
@@ -246,11 +279,16 @@ class Object:
         words = self.station.types.enums.get(part.type, {}) if part and part.sort == "Enum" else {}
         return words.get(told, told)
 
-    def number(self, *names):
-        try:
-            return float(self.value(*names))
-        except (TypeError, ValueError):
+    def number(self, instead, *names):
+        """The number of an attribute, or None where there is none, or a text that is no number of this use: what is then taken is noted with it."""
+        text = self.value(*names)
+        if text is None:
             return None
+        number = float(text) if DECIMAL.fullmatch(text) else math.inf
+        if math.isfinite(number) and (number or names[-1] != "scaleFactor"):
+            return number
+        self.unread.append((names[-1], text, instead))
+        return None
 
     def channel(self):
         """The channel of the member. Numbers that are no measured values are what they are."""
@@ -260,14 +298,17 @@ class Object:
         sort = self.leaf.sort
         if sort not in INTEGERS and not sort.startswith("FLOAT"):
             return Channel(self.leaf.name, FORMS[sort], **of)
-        if sort in INTEGERS and self.number("sVC", "scaleFactor") is None:
+        factor = self.number(f"{a:g} {unit}".rstrip(), "sVC", "scaleFactor") if sort in INTEGERS else None
+        if sort in INTEGERS and factor is None:
             return Channel(self.leaf.name, FORMS[sort], unit=unit, a=a, **of)
-        scale = {"a": self.number("sVC", "scaleFactor"), "b": self.number("sVC", "offset") or 0.0} if sort in INTEGERS else {}
+        scale = {"a": factor, "b": self.number("0", "sVC", "offset") or 0.0} if sort in INTEGERS else {}
         return Channel(self.leaf.name, FORMS[sort], unit=self.unit(unit), **scale, **of)
 
     def unit(self, usual):
         """The unit with the letter of its multiplier."""
         front = self.value("units", "multiplier") or ""
+        if front not in NO_FRONT and NUMBER.fullmatch(front):
+            self.unread.append(("multiplier", front, "none"))
         return ("" if front in NO_FRONT or NUMBER.fullmatch(front) else front) + (self.value("units", "SIUnit") or usual)
 
 
@@ -291,7 +332,7 @@ class TypesReader(data_types.TypesReader):
     def closes(self):
         super().closes()
         if self.path[1:] in (["DOType", "DA", "Val"], ["DAType", "BDA", "Val"]) and self.held:
-            self.held[-1].value = getattr(self.held[-1], "value", self.told())
+            self.held[-1].value = getattr(self.held[-1], "value", stated(self.told(), self.parser))
 
 
 class ValuesReader(data_types.Within):
@@ -306,5 +347,5 @@ class ValuesReader(data_types.Within):
 
     def closes(self):
         if self.path[-2:] == ["DAI", "Val"] and len(self.names) > 3 and self.names[-3] in ("sVC", "units"):
-            self.sees(tuple(self.names[:-1]), self.told())
+            self.sees(tuple(self.names[:-1]), stated(self.told(), self.parser))
         self.names.pop()

@@ -377,6 +377,46 @@ class Known(Each):
             yield f"the streams are {got}"
 
 
+class Unread(Each):
+    """A number of the SCL file by which samples are told and that is none is named with its line, and what is taken in its place."""
+
+    def __init__(self, name, old, new, value, of, instead):
+        before, _, after = fault_station.scd().partition(old)
+        super().__init__(f"an SCL file with {name}", sent_of(*units()), scd=before + new + after)
+        self.value, self.told = value, f"{value} of {of} (line {before.count(chr(10)) + 1}), and {instead} is taken"
+
+    def wrong(self, page, _octets):
+        (line, state), = [it for it in page.summary if it[0].startswith("Configuration")]
+        if self.value is None:
+            yield from [f"it tells what is there: {line}"] if "cannot be read" in line else []
+            return
+        if state != "unjudged" or f"1 value of of.scd by which samples are told cannot be read: {self.told}." not in line:
+            yield f"the line is {state}: {line}, and lacks {self.told}"
+        if f"of.scd: {self.told}, since it cannot be read." not in told_of(page, "station"):
+            yield "the section on senders does not say it"
+
+
+# The first current of MU01, in an SCL file and by its name, and the first voltages.
+NODE, CURRENT = '<LN prefix="I01A" lnClass="TCTR" inst="1" lnType="TCTR_T">', "I01ATCTR1.AmpSv.instMag.i"
+
+
+def unread():
+    """What stands in an SCL file, what is put in its place, and what the page says of that."""
+    some = lambda sort, letter, name: "; ".join(f"{letter}01{phase}{sort}{at}.{name}.instMag.i" for at, phase in enumerate("ABC", 1))
+    currents, voltages = f"MU01 ({some('TCTR', 'I', 'AmpSv')}; 1 more)", f"MU01 ({some('TVTR', 'U', 'VolSv')}; 1 more)"
+    for text in ("0,001", "abc", "1_000", "nan", "INF", "1e999", "0", "0x10", "\u0661"):
+        yield f"the scaleFactor {text}", "<Val>0.001</Val>", f"<Val>{text}</Val>", f"scaleFactor {text!r}", currents, "0.001 A"
+    offset = '<Val>0.00001</Val></BDA><BDA name="offset" bType="FLOAT32"><Val>'
+    yield "an offset that is no number", f"{offset}0<", f"{offset}none<", "offset 'none'", voltages, "0"
+    yield "a scaleFactor of a voltage", "<Val>0.00001</Val>", "<Val>1e-5 V</Val>", "scaleFactor '1e-5 V'", voltages, "0.01 V"
+    yield "a multiplier that is a number without a word", "<Val>k</Val>", "<Val>7</Val>", "multiplier '7'", voltages, "none"
+    for names, text, instead in ((("sVC", "scaleFactor"), "", "0.001 A"), (("sVC", "offset"), "-", "0")):
+        own = f'<DOI name="AmpSv"><SDI name="{names[0]}"><DAI name="{names[1]}"><Val>{text}</Val></DAI></SDI></DOI>'
+        yield f"a {names[1]} of one channel that is {text!r}", NODE, NODE + own, f"{names[1]} {text!r}", f"MU01 ({CURRENT})", instead
+    for text in (" 0.001 ", "1E-3", "+.001", "-1.", "7"):
+        yield f"the scaleFactor {text!r}, which is one", "<Val>0.001</Val>", f"<Val>{text}</Val>", None, "", ""
+
+
 class NoStream(Each):
     """Without a stream there is no section, and the trip table has no times from a fault."""
 
@@ -467,6 +507,7 @@ def cases():
     yield Known("raw words", sent_of(unit_of(words_of)), ["raw words of 32 bits"])
     yield Known("four pairs with --channels", sent_of(*units()), ["I1 (A)", "I1 (A), I2 (A), I3 (A), I4 (A) 4,000"], "--channels", "MU02=4I")
     yield Known("a data set", sent_of(*units()), [f"{first} (A)", "by the data set dsSv of MU02MU/LLN0$MS$msv1 in of.scd"], scd=fault_station.scd())
+    yield from (Unread(*told) for told in unread())
     yield NoStream("no stream", sent_of())
     yield NoTrip("no trip", sent_of(*units(), with_events=False))
     yield Bounded("many streams", sent_of(*many()))

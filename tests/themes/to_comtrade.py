@@ -464,6 +464,23 @@ def scd_of_own():
     return fault_station.scd().replace(f"{node}</LN>", f"{node}{told}</LN>", 1)
 
 
+class Unread(Each):
+    """A number of the SCL file that is none is told with its line and what is taken in its place, by the tool and in .hdr, and the status is 1."""
+
+    def wrong(self, program):
+        scale = '<BDA name="scaleFactor" bType="FLOAT32"><Val>'
+        currents = "MU01 (I01ATCTR1.AmpSv.instMag.i; I01BTCTR2.AmpSv.instMag.i; I01CTCTR3.AmpSv.instMag.i; 1 more)"
+        for old, new, told in ((f"{scale}0.001<", f"{scale}abc<", f"scaleFactor 'abc' of {currents} (line {{}}), and 0.001 A is taken"),
+                               ('smpRate="80"', 'smpRate="8O"', "smpRate '8O' of MU01 (line {})"),
+                               ('smpRate="80"', 'smpRate="80" smpMod="SmpPerHour"', "smpMod 'SmpPerHour' of MU01 (line {})")):
+            before, _, after = fault_station.scd().partition(old)
+            it = Made(program, capture(), "--svid", "MU01", scd=before + new + after)
+            told = "of.scd: " + told.format(before.count("\n") + 1)
+            yield from differs(f"{new}: the status and what is said", (1, f"to_comtrade: {told}: it cannot be read\n"), (it.status, it.said))
+            yield from [] if f"What cannot be read:\r\n  {told}\r\n" in it.header else [f".hdr lacks {told!r}: {it.header}"]
+            yield from differs(f"{new}: scale and rate", (0.001, RATE), (it.recording.analog[0].a, it.recording.rate))
+
+
 class Offset(Each):
     """A value is its integer times the scale plus the offset, in each form; of the steps 7, -40 and 2,000 the first channel says so much."""
 
@@ -709,6 +726,7 @@ def cases():
                         ("asked for", 4000, 50, ("--frequency", "60"), 60)):
         yield Frequency(f"the line frequency: {name}", *told)
     yield from (Said(f"channels {name}", *told) for name, *told in channels())
+    yield Unread("numbers of an SCL file that are none")
     yield Offset("a scale and an offset")
     yield Limits("the limits of single precision")
     yield Floats("floating-point values")

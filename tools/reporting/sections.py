@@ -224,6 +224,8 @@ def station(found, own, short):
         told.append(paragraph(f"{own.scd}, line {line}: {reference} is not compared: {why}."))
     for it in (unread.of_all(found.configured) if found.configured else [])[:found.room.rows]:
         told.append(paragraph(f"{own.scd}: nothing is held beside {it}: it cannot be read."))
+    for it in unread.of_samples(found.samples)[:found.room.rows]:
+        told.append(paragraph(f"{own.scd}: {it}, since it cannot be read."))
     for it in found.clocks:
         where = f"from packet\u00a0{it.first} on" if it.first else f"{found.all_packets}"
         told += [page.bounded(f"Clocks of devices beside the capture's, {where}", clocks.COLUMNS, it.rows(short), found.room, "row")] if it.off else []

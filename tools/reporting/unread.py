@@ -7,22 +7,25 @@ from reporting.verdict import not_judged, some
 
 # The most letters of a text that are told.
 MOST = 40
+# What of a SampledValueControl says how many samples a second there are.
+RATE = {"smpRate", "smpMod"}
 # The numbers of a SampledValueControl: from 1 to the greatest of 32 bits.
 NUMBER, GREATEST = re.compile("[0-9]{1,10}"), (1 << 32) - 1
 
 
 class Unread:
-    """A value that cannot be read: its line, its name and text, and the sender that it is of."""
+    """A value that cannot be read: its line, its name and text, the sender that it is of, and what is taken in its place where something is."""
 
-    def __init__(self, line, name, text, sender):
-        self.line, self.name, self.text, self.sender = line, name, text, sender
+    def __init__(self, line, name, text, sender, instead=None):
+        self.line, self.name, self.text, self.sender, self.instead = line, name, text, sender, instead
 
     def value(self):
         text = self.text if len(self.text) <= MOST else f"{self.text[:MOST]}.."
         return f"{self.name} {text!r}"
 
     def told(self):
-        return f"{self.value()} of {self.sender} (line {self.line})"
+        instead = f", and {self.instead} is taken" if self.instead else ""
+        return f"{self.value()} of {self.sender} (line {self.line}){instead}"
 
 
 def of_sampling(stated):
@@ -51,8 +54,16 @@ def of_all(configured):
     return list(dict.fromkeys(it.told() for held in configured.unread.values() for it in held))
 
 
+def of_samples(samples):
+    """Each value that scales samples of a stream, in words."""
+    return list(dict.fromkeys(it.told() for wave in samples.waves.values() if wave.layout for it in wave.layout.unread))
+
+
 def judge(found, own):
-    """What is not compared, since it cannot be read."""
+    """What is not compared, and by what samples are not told, since it cannot be read."""
+    told = of_samples(found.samples)
+    if told:
+        yield not_judged(f"{page.count(len(told), 'value')} of {own.scd} by which samples are told cannot be read: {some(told)}.", "mend the SCL file")
     told = of_all(found.configured)
     if told:
         yield not_judged(f"{page.count(len(told), 'value')} of {own.scd} cannot be read, and what would be held beside "
