@@ -1,8 +1,8 @@
 """What the commands that read events write of a list or of a capture, by the slow programs."""
-from oracles import dates, inventory, losses, objects, packets, reference, skipping, subscriber, watcher
+from oracles import dates, inventory, losses, objects, packets, reference, skipping, subscriber, unwrapping, watcher
 
 COMMANDS = tuple(name for name, words in reference.TAKES.items() if "[OPTIONS]" in words)
-CAPTURE, SKIP, TIME, JSON = "--capture", "--skip-other", "--time", "--json"
+CAPTURE, SKIP, UNWRAP, TIME, JSON = "--capture", "--skip-other", "--unwrap", "--time", "--json"
 OPTIONS = set(reference.OPTIONS)
 
 
@@ -19,16 +19,18 @@ def value(asked, name):
                  if word == name or word.startswith(f"{name}=")), None)
 
 
-def reader_of(asked):
-    """The reader that a command line asks for."""
-    return packets.events if CAPTURE in options_of(asked)[1] else reference.events
+def reader_of(asked, events_of=None):
+    """The reader that a command line asks for, over this one of an input, or over that which its words name."""
+    options = options_of(asked)[1]
+    reader = events_of or (packets.events if CAPTURE in options else reference.events)
+    return unwrapping.Unwrapping(reader) if UNWRAP in options else reader
 
 
 def answered(asked, octets, has_failed=False, events_of=None):
     """The lines that a command line answers of octets, its exit status, and what it passed over, if it passes over anything. The
     octets are read as the command line says, or by another reader."""
     plain, options = options_of(asked)
-    reader = events_of or reader_of(asked)
+    reader = reader_of(asked, events_of)
     passed = skipping.Skipping(reader) if SKIP in options else None
     how = has_failed, passed or reader
     name, *own = own_words(plain)
@@ -59,7 +61,7 @@ def own_words(plain):
 def written(asked, lines, octets, has_failed=False, events_of=None):
     """These lines as the command line has them written."""
     plain, options = options_of(asked)
-    reader = events_of or reader_of(asked)
+    reader = reader_of(asked, events_of)
     if TIME in options:
         return list(dates.dated(lines, octets, has_failed, reader))
     if JSON in options:

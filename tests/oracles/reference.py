@@ -667,6 +667,7 @@ TAKES = {"show": " [OPTIONS]", "check": " [OPTIONS]", "blocks": " [OPTIONS]", "r
 OPTIONS = {
     "--capture": "Reads a capture (classic or pcapng) in place of a list",
     "--skip-other": "Takes frames of other EtherTypes as a sign that time passes, and counts them",
+    "--unwrap": "Looks at frames without HSR tags, and without VLAN tags before another",
     "--time": "Begins each line with the date of its event, in UTC",
     "--json": "Writes JSON objects, one a line, in place of text",
 }

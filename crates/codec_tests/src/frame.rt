@@ -14,3 +14,4 @@ mod refused_lists;
 mod sampled_frames;
 pub mod sentences;
 mod skipping;
+mod unwrapping;

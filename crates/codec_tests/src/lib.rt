@@ -1,4 +1,4 @@
-//! Tests of `ber_core`, `mms_data`, `pdu_core`, `list_core`, `frame_core` and `capture_core` by their public calls, and of the
+//! Tests of `ber_core`, `mms_data`, `pdu_core`, `list_core`, `frame_core`, `unwrap_core` and `capture_core` by their public calls, and of the
 //! allocator that refuses growths.
 #![tactic(auto)]
 

@@ -243,8 +243,14 @@ fn request_named(
 }
 
 // Words that ask for a task with options: its name, and whether `--capture` and `--skip-other` are given.
-const REQUESTS: [(&[&str], &str, bool, bool); 14] = [
+const REQUESTS: [(&[&str], &str, bool, bool); 15] = [
     (&["goose", "show"], "show", false, false),
+    (
+        &["goose", "losses", "--unwrap", "--skip-other"],
+        "losses",
+        false,
+        true,
+    ),
     (&["goose", "show", "--capture"], "show", true, false),
     (
         &["goose", "check", "--skip-other", "--capture"],

@@ -5,18 +5,14 @@ use Rattle.std.specs.Global.{Global}
 use Rattle.list_core.specs.declared.device.InputEnd.{InputEnd}
 use Rattle.list_core.specs.declared.device.InputEnd.TheVariants.{Failed, Open}
 use Rattle.list_core.specs.declared.event.Event.{Event}
-use Rattle.list_core.specs.declared.event_lines.EventLines.{EventLines}
 use Rattle.list_core.specs.declared.event_lines.EventLines.TheVariants.{First}
 use Rattle.list_core.specs.declared.line_rules.ItemFault.{ItemFault}
 use Rattle.list_core.specs.declared.list_fault.ListCause.{ListCause}
 use Rattle.list_core.specs.Device.{GivesOctets}
 use Rattle.list_core.specs.EventLine.{event_rules}
-use Rattle.list_core.specs.ItemReader.{Answer, AnswersItem, ReaderState}
 use Rattle.list_core.specs.ReadItems.{AnswerOf}
 use Rattle.capture_core.specs.declared.capture_fault.CaptureCause.{CaptureCause}
 use Rattle.capture_core.specs.declared.capture_fault.CaptureFault.{CaptureFault}
-use Rattle.capture_core.specs.PacketReader.{AnswersPacket, PacketAnswer, PacketState, at_start}
-use Rattle.frame_core.specs.SkipOther.{skip_answer}
 use Rattle.object_core.specs.declared.counted.Form.{Form}
 use Rattle.engine_core.specs.declared.ending.Ending.{Ending}
 use Rattle.engine_core.specs.declared.ending.Ending.TheVariants.{ReadFault}
@@ -25,12 +21,9 @@ use Rattle.engine_core.specs.declared.style.Style.{Style}
 use Rattle.engine_core.specs.CaptureRun.{capture_faults, capture_input}
 use Rattle.engine_core.specs.EventsText.{EventAllows, FaultText, over_in}
 use Rattle.engine_core.specs.Input.{Faults, GaveThen, Input, IsRead, Reader}
-use Rattle.engine_core.specs.MadeRun.{answer_made, made}
 use Rattle.engine_core.specs.Run.{list_faults, list_input}
 use Rattle.engine_core.specs.RunOver.{LeavesSo, stopped_at}
-use Rattle.engine_core.proofs.CaptureRuns as captures
 use Rattle.engine_core.proofs.InputRuns.{GivenSo, input_run, none_given}
-use Rattle.engine_core.proofs.ListRuns as lists
 use Rattle.engine_core.proofs.ReadFaults.{Blames, capture_blames, list_blames, source_failed}
 use Rattle.exchange_engines.specs.declared.engines.replay.ReplayStop.{ReplayStop}
 use Rattle.words_core.specs.CommandLine.{Asked, check, import, list_blocks, losses, publish, replay, rewrite, show, takes_options, watch}
@@ -39,7 +32,7 @@ use Rattle.loss_engine.proofs.LossRuns.{losses_failed, losses_run}
 use Rattle.task_engine.specs.declared.stop.Stop.{Stop}
 use Rattle.task_engine.specs.declared.stop.Stop.TheVariants as stop
 use Rattle.task_engine.specs.EventTasks.{Ended, Left, OverWrites, StopsBy, TaskLeaves, TextLeft, allowed_by, ended, left_of, left_over, manner}
-use Rattle.task_engine.specs.InputText.{EventsTell, InputTells, capture_events, capture_last, list_events, list_last, made_by, of_list, of_stop}
+use Rattle.task_engine.specs.InputText.{EventsTell, InputTells, capture_events, capture_last, list_events, list_last, looked_at, of_list, of_stop}
 use Rattle.task_engine.specs.RequestText.{EventsWrite, RequestWrites, WritesBy, has_option, style_of}
 use Rattle.task_engine.specs.TaskText.{TaskWrites}
 
@@ -130,53 +123,54 @@ events_failed of style asked input last end told blames t = task_any style (left
 
 -- ---- lists and captures
 
--- of an answer nothing is made, or what is left of its event
-pub none_made : {F : Type 0} (answer : AnswerOf (Event Global) F) → answer ≡ answer_made (made_by false) answer
-none_made (Ok (Some e)) = refl
-none_made (Ok None) = refl
-none_made (Err f) = refl
+-- the faults of an input stay, whatever is made of its events
+capture_same : (unwraps skips : Bool) → capture_faults ≡ (capture_events unwraps skips).faults
+capture_same unwraps true = refl
+capture_same unwraps false = refl
 
-pub skip_made : {F : Type 0} (answer : AnswerOf (Event Global) F) → skip_answer answer ≡ answer_made (made_by true) answer
-skip_made (Ok (Some e)) = refl
-skip_made (Ok None) = refl
-skip_made (Err f) = refl
+list_same : (unwraps skips : Bool) → list_faults ≡ (list_events unwraps skips).faults
+list_same unwraps true = refl
+list_same unwraps false = refl
 
--- a task over a reader of a capture, with this made of each event
-pub capture_tells : {I : Type 0} (skips : Bool) (state : I → PacketState) (reader : Reader I (Event Global) CaptureCause CaptureFault) → reader.faults ≡ capture_faults →
-    ((old new : I) (answer : AnswerOf (Event Global) CaptureFault) → reader.answers old answer new → (o : PacketAnswer Global) × AnswersPacket (state old) o (state new) × (answer ≡ answer_made (made_by skips) o)) →
-    (style : Style) (asked : Asked) (start : I) (stopped : Stopped I (ReplayStop CaptureFault)) (old new : Option (List ℕ)) → (state start).stage ≡ at_start → (state start).ending ≡ Open → OverWrites style asked reader capture_last start stopped old new →
-    GivenSo (state start).left (state stopped.reader).left (λ given. EventsTell stop.Packet style asked (capture_events skips) capture_last (ended stopped.ending (state stopped.reader).ending given old new) (option_map (of_stop stop.Packet) stopped.fault))
-capture_tells skips state reader same through style asked start stopped old new fresh is w =
-    let r = over_input reader (capture_events skips) same (λ x. (state x).left) (λ x. (state x).ending) capture_last start stopped old new is
-    (captures.made_read (made_by skips) state reader through start stopped.reader fresh is) style asked w in
+-- a task over a reader of a capture, of which this is looked at
+pub capture_tells : {I : Type 0} (unwraps skips : Bool) (left : I → Option (List ℕ)) (source : I → InputEnd) (reader : Reader I (Event Global) CaptureCause CaptureFault) → reader.faults ≡ capture_faults →
+    (style : Style) (asked : Asked) (start : I) (stopped : Stopped I (ReplayStop CaptureFault)) (old new : Option (List ℕ)) → source start ≡ Open →
+    ((items : List (ℕ × Event Global)) (answer : AnswerOf (Event Global) CaptureFault) → GaveThen reader start stopped.reader items answer → GivenSo (left start) (left stopped.reader) (λ given. IsRead (capture_events unwraps skips) (source stopped.reader) given items answer)) →
+    OverWrites style asked reader capture_last start stopped old new →
+    GivenSo (left start) (left stopped.reader) (λ given. EventsTell stop.Packet style asked (capture_events unwraps skips) capture_last (ended stopped.ending (source stopped.reader) given old new) (option_map (of_stop stop.Packet) stopped.fault))
+capture_tells unwraps skips left source reader same style asked start stopped old new is reads w =
+    let r = over_input reader (capture_events unwraps skips) (same ∙ capture_same unwraps skips) left source capture_last start stopped old new is reads style asked w in
     (r.0, r.1, (stopped.fault, r.2, refl))
 
 -- a task over a reader of a list
-pub list_tells : {I : Type 0} (skips : Bool) (state : I → ReaderState EventLines) (reader : Reader I (Event Global) ListCause (ItemFault ListCause)) → reader.faults ≡ list_faults →
-    ((old new : I) (answer : AnswerOf (Event Global) (ItemFault ListCause)) → reader.answers old answer new → (o : Answer (Event Global) ListCause) × AnswersItem event_rules (state old) o (state new) × (answer ≡ answer_made (made_by skips) o)) →
-    (style : Style) (asked : Asked) (start : I) (stopped : Stopped I (ReplayStop (ItemFault ListCause))) (old new : Option (List ℕ)) →
-    (state start).ending ≡ Open → (state start).taken ≡ 0 → (state start).held ≡ [] → (state start).settled ≡ First → OverWrites style asked reader list_last start stopped old new →
-    GivenSo (state start).left (state stopped.reader).left (λ given. EventsTell of_list style asked (list_events skips) list_last (ended stopped.ending (state stopped.reader).ending given old new) (option_map (of_stop of_list) stopped.fault))
-list_tells skips state reader same through style asked start stopped old new is no_line no_octet first w =
-    let r = over_input reader (list_events skips) same (λ x. (state x).left) (λ x. (state x).ending) list_last start stopped old new is
-    (subst (λ (s : EventLines). (items : List (ℕ × Event Global)) (answer : AnswerOf (Event Global) (ItemFault ListCause)) → GaveThen reader start stopped.reader items answer → GivenSo (state start).left (state stopped.reader).left (λ given. IsRead (made (made_by skips) (list_input event_rules s)) (state stopped.reader).ending given items answer)) first
-    (lists.made_read event_rules (made_by skips) state reader through start stopped.reader is no_line no_octet)) style asked w in
+pub list_tells : {I : Type 0} (unwraps skips : Bool) (left : I → Option (List ℕ)) (source : I → InputEnd) (reader : Reader I (Event Global) ListCause (ItemFault ListCause)) → reader.faults ≡ list_faults →
+    (style : Style) (asked : Asked) (start : I) (stopped : Stopped I (ReplayStop (ItemFault ListCause))) (old new : Option (List ℕ)) → source start ≡ Open →
+    ((items : List (ℕ × Event Global)) (answer : AnswerOf (Event Global) (ItemFault ListCause)) → GaveThen reader start stopped.reader items answer → GivenSo (left start) (left stopped.reader) (λ given. IsRead (list_events unwraps skips) (source stopped.reader) given items answer)) →
+    OverWrites style asked reader list_last start stopped old new →
+    GivenSo (left start) (left stopped.reader) (λ given. EventsTell of_list style asked (list_events unwraps skips) list_last (ended stopped.ending (source stopped.reader) given old new) (option_map (of_stop of_list) stopped.fault))
+list_tells unwraps skips left source reader same style asked start stopped old new is reads w =
+    let r = over_input reader (list_events unwraps skips) (same ∙ list_same unwraps skips) left source list_last start stopped old new is reads style asked w in
     (r.0, r.1, (stopped.fault, r.2, refl))
 
-pub capture_failed : (skips : Bool) (style : Style) (asked : Asked) (end : Ended) (told : Option Stop) → InputTells true skips style asked end told → end.ending ≡ ReadFault → end.source ≡ Failed
-capture_failed skips style asked end told t = events_failed stop.Packet style asked (capture_events skips) capture_last end told (capture_blames Global) t
+-- a failed read is blamed on the source, whatever is made of the events
+looked_blames : {C F : Type 0} (unwraps skips : Bool) (input : Input (Event Global) C F) → Blames input → Blames (looked_at unwraps skips input)
+looked_blames unwraps true input blames = blames
+looked_blames unwraps false input blames = blames
 
-pub list_failed : (skips : Bool) (style : Style) (asked : Asked) (end : Ended) (told : Option Stop) → InputTells false skips style asked end told → end.ending ≡ ReadFault → end.source ≡ Failed
-list_failed skips style asked end told t = events_failed of_list style asked (list_events skips) list_last end told (list_blames event_rules First) t
+pub capture_failed : (unwraps skips : Bool) (style : Style) (asked : Asked) (end : Ended) (told : Option Stop) → InputTells true unwraps skips style asked end told → end.ending ≡ ReadFault → end.source ≡ Failed
+capture_failed unwraps skips style asked end told t = events_failed stop.Packet style asked (capture_events unwraps skips) capture_last end told (looked_blames unwraps skips capture_input (capture_blames Global)) t
+
+pub list_failed : (unwraps skips : Bool) (style : Style) (asked : Asked) (end : Ended) (told : Option Stop) → InputTells false unwraps skips style asked end told → end.ending ≡ ReadFault → end.source ≡ Failed
+list_failed unwraps skips style asked end told t = events_failed of_list style asked (list_events unwraps skips) list_last end told (looked_blames unwraps skips (list_input event_rules First) (list_blames event_rules First)) t
 
 -- ---- options
 
--- what is left by options, whose style, input and frames passed over are these
+-- what is left by options, whose style, input, and what is looked at are these
 pub by_options : (options : Options) (style : Style) (is_capture skips : Bool) (asked : Asked) (end : Ended) (told : Option Stop) → style ≡ style_of options → options.is_capture ≡ is_capture → options.skips_other ≡ skips →
-    InputTells is_capture skips style asked end told → EventsWrite options asked end told
+    InputTells is_capture options.unwraps skips style asked end told → EventsWrite options asked end told
 by_options options style is_capture skips asked end told s i k w =
-    subst (λ (x : Style). InputTells options.is_capture options.skips_other x asked end told) s
-    (subst (λ (b : Bool). InputTells b options.skips_other style asked end told) (sym i) (subst (λ (b : Bool). InputTells is_capture b style asked end told) (sym k) w))
+    subst (λ (x : Style). InputTells options.is_capture options.unwraps options.skips_other x asked end told) s
+    (subst (λ (b : Bool). InputTells b options.unwraps options.skips_other style asked end told) (sym i) (subst (λ (b : Bool). InputTells is_capture options.unwraps b style asked end told) (sym k) w))
 
 -- no option is given
 no_option : (takes given : Bool) → false ≡ given → false ≡ takes && given

@@ -1,2 +1,3 @@
+pub mod UnwrappedReads
 pub mod EventTaskLemmas
 pub mod PassedLemmas

@@ -1,7 +1,7 @@
 -- What a task over events passes over of the frames of other protocols.
 use Rattle.std.proofs.Common.{Option, Some, None, Ok, Err, Result, ◌≡◌, ◌⊎◌, ◌≤◌, ◌+◌, ◌-◌, ℕ, Bool, List, [], ◌∷◌, ◌++◌, length, take, inl, inr, ap, sym, ◌∙◌, refl, subst, arith}
 use Rattle.std.specs.Global.{Global}
-use Rattle.std.proofs.lemmas.List.{append_assoc, append-nil, length-append}
+use Rattle.std.proofs.lemmas.List.{append_assoc, append-nil, length-append, length-map}
 use Rattle.std.proofs.lemmas.Grind.{flat_map-append}
 use Rattle.list_core.specs.declared.device.InputEnd.{InputEnd}
 use Rattle.list_core.specs.declared.device.InputEnd.TheVariants.{Open}
@@ -25,22 +25,23 @@ use Rattle.frame_core.specs.declared.skip_other.SkipOther.{SkipOther}
 use Rattle.frame_core.specs.PassedOver.{Tally, no_tally, pass_all}
 use Rattle.frame_core.specs.SkipOther.{Skips, beneath, pass_answer, pass_where, passed_in, passed_over, passed_where, skip_answer, type_passed}
 use Rattle.frame_core.proofs.Skipping.{leaves_what_came}
+use Rattle.unwrap_core.specs.UnwrapEvents.{UnwrapsEach, under, unwrap_where}
+use Rattle.unwrap_core.specs.declared.unwrap.Unwrap.{Unwrap}
 use Rattle.object_core.specs.declared.counted.Form.{Form}
 use Rattle.engine_core.specs.declared.ending.Ending.{Ending}
 use Rattle.engine_core.specs.declared.stopped.Halt.{Halt}
 use Rattle.engine_core.specs.declared.stopped.Halt.TheVariants as halt
 use Rattle.engine_core.specs.declared.stopped.Stopped.{Stopped}
 use Rattle.engine_core.specs.declared.style.Style.{Style}
-use Rattle.engine_core.specs.CaptureRun.{TellsNoMore, capture_faults}
+use Rattle.engine_core.specs.CaptureRun.{TellsNoMore, capture_faults, capture_input}
 use Rattle.engine_core.specs.EngineText.{Allowed, exactly}
 use Rattle.engine_core.specs.EventsText.{EventAllows, FaultText, over_in}
 use Rattle.engine_core.specs.Input.{Faults, GaveThen, IsRead, Reader}
+use Rattle.engine_core.specs.MadeRun.{each_made, with_each}
 use Rattle.engine_core.specs.Run.{AtLine, list_faults, list_input}
 use Rattle.engine_core.specs.RunOver.{IsDue, Run, RunsOver, Stops, WantsFor, ending_by_halt, step_fault, stopped_at}
 use Rattle.engine_core.specs.WholeRun.{SaysFirst}
-use Rattle.engine_core.proofs.CaptureRuns.{capture_read}
-use Rattle.engine_core.proofs.InputRuns.{GivenSo, none_given}
-use Rattle.engine_core.proofs.ListRuns.{list_read}
+use Rattle.engine_core.proofs.InputRuns.{none_given}
 use Rattle.exchange_engines.specs.declared.engines.replay.ReplayStop.{ReplayStop}
 use Rattle.words_core.specs.CommandLine.{Asked}
 use Rattle.loss_engine.specs.LossText.{written_pieces}
@@ -51,6 +52,7 @@ use Rattle.task_engine.specs.EventTasks.{OverWrites, left_over, manner}
 use Rattle.task_engine.specs.InputText.{capture_last, list_last}
 use Rattle.task_engine.specs.HandedOut.{PassesOver, ReachesInCapture, ReachesInList, ReadsAll}
 use Rattle.task_engine.proofs.EventTaskLemmas.{task_any}
+use Rattle.task_engine.proofs.UnwrappedReads.{BeginsCapture, BeginsList, capture_reads, lines, list_reads, packets, unwrapped_read}
 
 -- a task read its events: those that it was given, and one answer behind them, which tells how the input stops if all was read
 record Reads {I C F : Type 0} (reader : Reader I (Event Global) C F) (start end : I) (ending : Ending) : Type 0 where
@@ -182,11 +184,10 @@ none_in_list : ReachesInList Open [] 0
 none_in_list = inl (record { lines_before = 0; settled = First; earlier = []; onward = []; whole = refl; starts_line = inl refl; at_most = omega arith; for_this_line = inl refl; says = refl })
 
 -- the line behind these events of a list, and one more of them
-list_reaches : (z : InputEnd) (octets : List ℕ) (es : List (ℕ × Event Global)) (onward : Listing (Event Global) ListCause) → listing event_rules First z 0 octets ≡ put_items es onward → AtLine event_rules First z octets es →
-    ReachesInList z octets (length es) × ReachesInList z octets (length es + 1)
-list_reaches z octets es onward says line =
+list_reaches : (z : InputEnd) (octets : List ℕ) (es : List (ℕ × Event Global)) → AtLine event_rules First z octets es → ReachesInList z octets (length es) × ReachesInList z octets (length es + 1)
+list_reaches z octets es line =
     let items = (listing (event_rules {A = Global}) First z 0 octets).items in
-    let front : take (length es) items ≡ es = ap (λ (l : Listing (Event Global) ListCause). take (length es) l.items) says ∙ take_front es onward.items in
+    let front : take (length es) items ≡ es = ap (λ (l : Listing (Event Global) ListCause). take (length es) l.items) line.says ∙ take_front es _ in
     let one_less : length es + 1 - 1 ≡ length es = omega arith in (
       inl (subst (λ (xs : List (ℕ × Event Global)). AtLine event_rules First z octets xs) (sym front) line),
       inr (subst (λ (xs : List (ℕ × Event Global)). AtLine event_rules First z octets xs) (sym (ap (λ (n : ℕ). take n items) one_less ∙ front)) line),
@@ -196,12 +197,6 @@ no_event : (listing (event_rules {A = Global}) First Open 0 []).items ≡ []
 unfolding items_said reading
 no_event = refl
 
--- a reader stands for states
-gave_states : {I P X F : Type 0} (raw : P → AnswerOf X F → P → Type 0) (state : I → P) (a b : I) (items : List (ℕ × X)) → Gave (λ x answer y. raw (state x) answer (state y)) a items b → Gave raw (state a) items (state b)
-unfolding Gave
-gave_states raw state a b [] same = ap state same
-gave_states raw state a b (e ∷ es) (next, q, g) = (state next, q, gave_states raw state next b es g)
-
 -- where no more than these events are told by octets, those have no more
 told_fewer : {A : Type 0} (items : List (ℕ × Event A)) (octets : List ℕ) → TellsNoMore items octets → length (captured_events {A = A} Open octets).items ≤ length items
 told_fewer {A} items octets t =
@@ -209,57 +204,62 @@ told_fewer {A} items octets t =
     let all : length items ≡ length t.told + length t.others = ap length t.parts ∙ length-append t.told t.others in
     omega (arith, all, is)
 
-module _ {R : Type 0} (left : R → Option (List ℕ)) (told : R → InputEnd) (style : Style) (asked : Asked) where
-  abbrev packets : PacketReader R Global → PacketAnswer Global → PacketReader R Global → Type 0
-  packets before answer after = AnswersPacket (packet_state left told before) answer (packet_state left told after)
+-- unwrapped, as many events are as many
+as_many : (unwraps : Bool) (es said : List (ℕ × Event Global)) → es ≡ each_made (unwrap_where unwraps) said → length said ≡ length es
+as_many unwraps es said same = sym (ap length same ∙ length-map said (λ (e : ℕ × Event Global). (e.0, unwrap_where unwraps e.1)))
 
+module _ {R : Type 0} (left : R → Option (List ℕ)) (told : R → InputEnd) (style : Style) (asked : Asked) (unwraps : Bool) where
   -- of a capture
-  pub capture_passes : (number : SkipOther (PacketReader R Global) Global → ℕ) (old new : Option (List ℕ)) (start : SkipOther (PacketReader R Global) Global) (stopped : Stopped (SkipOther (PacketReader R Global) Global) (ReplayStop CaptureFault)) →
-      (packet_state left told (beneath start)).stage ≡ at_start → (packet_state left told (beneath start)).ending ≡ Open → passed_over start ≡ no_tally →
-      OverWrites style asked (record { answers = λ before answer after. Skips packets before answer after; number = number; faults = capture_faults }) capture_last start stopped old new →
-      (given : List ℕ) × GivesOctets (packet_state left told (beneath start)).left (packet_state left told (beneath stopped.reader)).left given
-      × PassesOver (captured_events {A = Global} (packet_state left told (beneath stopped.reader)).ending given) stopped.ending (ReachesInCapture given) (passed_over stopped.reader)
-  capture_passes number old new start stopped fresh is none w = elim (reads (record { answers = λ before answer after. Skips packets before answer after; number = number; faults = capture_faults }) capture_last start stopped style old new asked w) [
-    | inl same ↦ rw same ([], none_given _, rw is (passes_none _ stopped.ending _ _ refl (none_in_capture 0) none))
-    | inr r ↦
-        let g = r.gave in
-        let came = leaves_what_came packets start g.before r.items g.gave in
-        let state : PacketReader R Global → PacketState = λ x. packet_state left told x in
-        let read = capture_read (state (beneath start)) (state (beneath g.before)) (state (beneath stopped.reader)) came.0 g.answered.given fresh is (gave_states AnswersPacket state (beneath start) (beneath g.before) came.0 came.1) g.answered.read in
-        let far : ReachesInCapture read.0 (length came.0) = λ front rest parts some. told_fewer came.0 front (read.2.stands.asked front rest parts (inl some)) in (
-          read.0,
-          read.1,
-          passes_by _ came.0 g.answered.given stopped.ending (ReachesInCapture read.0) (passed_over stopped.reader) (read.2.onward, read.2.says, read.2.tells)
-              (λ a. stop_left g.answered.given (subst (λ (x : AnswerOf (Event Global) CaptureFault). AtStop x) g.answered.left (r.all a)))
-              far (λ front rest parts some. let few = far front rest parts some in omega (arith, few))
-              (g.answered.kept ∙ ap (λ (t : Tally). pass_answer g.answered.given t) (came.3 ∙ ap (λ (t : Tally). pass_all (passed_in came.0) t) none)),
-        )
-  ]
-
-  abbrev lines : ItemReader R EventLines → Answer (Event Global) ListCause → ItemReader R EventLines → Type 0
-  lines before answer after = AnswersItem event_rules (item_state left told before) answer (item_state left told after)
+  pub capture_passes : (number : SkipOther (Unwrap (PacketReader R Global)) Global → ℕ) (old new : Option (List ℕ)) (start : SkipOther (Unwrap (PacketReader R Global)) Global) (stopped : Stopped (SkipOther (Unwrap (PacketReader R Global)) Global) (ReplayStop CaptureFault)) →
+      BeginsCapture left told (under (beneath start)) → (beneath start).unwraps ≡ unwraps → passed_over start ≡ no_tally →
+      OverWrites style asked (record { answers = λ before answer after. Skips (UnwrapsEach (packets left told)) before answer after; number = number; faults = capture_faults }) capture_last start stopped old new →
+      (given : List ℕ) × GivesOctets (packet_state left told (under (beneath start))).left (packet_state left told (under (beneath stopped.reader))).left given
+      × PassesOver (with_each (unwrap_where unwraps) (captured_events {A = Global} (packet_state left told (under (beneath stopped.reader))).ending given)) stopped.ending (ReachesInCapture given) (passed_over stopped.reader)
+  capture_passes number old new start stopped begins is none w =
+      elim (reads (record { answers = λ before answer after. Skips (UnwrapsEach (packets left told)) before answer after; number = number; faults = capture_faults }) capture_last start stopped style old new asked w) [
+        | inl same ↦ rw same ([], none_given _, rw begins.is_open (passes_none _ stopped.ending _ _ refl (none_in_capture 0) none))
+        | inr r ↦
+            let g = r.gave in
+            let came = leaves_what_came (UnwrapsEach (packets left told)) start g.before r.items g.gave in
+            let state : PacketReader R Global → PacketState = λ x. packet_state left told x in
+            let read = unwrapped_read (packets left told) capture_input (λ x. (state x).left) (λ x. (state x).ending) unwraps (beneath start) (beneath stopped.reader) is (capture_reads left told (under (beneath start)) (under (beneath stopped.reader)) begins)
+            (beneath g.before) came.0 g.answered.given came.1 g.answered.read in
+            let stands = read.2.stands in
+            let many = as_many unwraps came.0 stands.said stands.are_made in
+            let far : ReachesInCapture read.0 (length came.0) = λ front rest parts some. let few = told_fewer stands.said front (stands.stands.asked front rest parts (inl some)) in omega (arith, few, many) in (
+              read.0,
+              read.1,
+              passes_by _ came.0 g.answered.given stopped.ending (ReachesInCapture read.0) (passed_over stopped.reader) (read.2.onward, read.2.says, read.2.tells)
+                  (λ a. stop_left g.answered.given (subst (λ (x : AnswerOf (Event Global) CaptureFault). AtStop x) g.answered.left (r.all a)))
+                  far (λ front rest parts some. let few = far front rest parts some in omega (arith, few))
+                  (g.answered.kept ∙ ap (λ (t : Tally). pass_answer g.answered.given t) (came.3 ∙ ap (λ (t : Tally). pass_all (passed_in came.0) t) none)),
+            )
+      ]
 
   -- of a list
-  pub list_passes : (number : SkipOther (ItemReader R EventLines) Global → ℕ) (old new : Option (List ℕ)) (start : SkipOther (ItemReader R EventLines) Global) (stopped : Stopped (SkipOther (ItemReader R EventLines) Global) (ReplayStop (ItemFault ListCause))) →
-      (item_state left told (beneath start)).ending ≡ Open → (item_state left told (beneath start)).taken ≡ 0 → (item_state left told (beneath start)).held ≡ [] → (item_state left told (beneath start)).settled ≡ First → passed_over start ≡ no_tally →
-      OverWrites style asked (record { answers = λ before answer after. Skips lines before answer after; number = number; faults = list_faults }) list_last start stopped old new →
-      (given : List ℕ) × GivesOctets (item_state left told (beneath start)).left (item_state left told (beneath stopped.reader)).left given
-      × PassesOver (listing event_rules First (item_state left told (beneath stopped.reader)).ending 0 given) stopped.ending (ReachesInList (item_state left told (beneath stopped.reader)).ending given) (passed_over stopped.reader)
-  list_passes number old new start stopped is no_line no_octet settled none w = elim (reads (record { answers = λ before answer after. Skips lines before answer after; number = number; faults = list_faults }) list_last start stopped style old new asked w) [
-    | inl same ↦ rw same ([], none_given _, rw is (passes_none _ stopped.ending _ _ no_event none_in_list none))
-    | inr r ↦
-        let g = r.gave in
-        let came = leaves_what_came lines start g.before r.items g.gave in
-        let state : ItemReader R EventLines → ReaderState EventLines = λ x. item_state left told x in
-        let z = (state (beneath stopped.reader)).ending in
-        let read = subst (λ (s : EventLines). GivenSo (state (beneath start)).left (state (beneath stopped.reader)).left (λ given. IsRead (list_input event_rules s) z given came.0 g.answered.given)) settled
-        (list_read event_rules (state (beneath start)) (state (beneath g.before)) (state (beneath stopped.reader)) came.0 g.answered.given is no_line no_octet (gave_states (AnswersItem event_rules) state (beneath start) (beneath g.before) came.0 came.1) g.answered.read) in
-        let far = list_reaches z read.0 came.0 read.2.onward read.2.says read.2.stands.line in (
-          read.0,
-          read.1,
-          passes_by _ came.0 g.answered.given stopped.ending (ReachesInList z read.0) (passed_over stopped.reader) (read.2.onward, read.2.says, read.2.tells)
-              (λ a. stop_left g.answered.given (subst (λ (x : AnswerOf (Event Global) (ItemFault ListCause)). AtStop x) g.answered.left (r.all a)))
-              far.0 far.1
-              (g.answered.kept ∙ ap (λ (t : Tally). pass_answer g.answered.given t) (came.3 ∙ ap (λ (t : Tally). pass_all (passed_in came.0) t) none)),
-        )
-  ]
+  pub list_passes : (number : SkipOther (Unwrap (ItemReader R EventLines)) Global → ℕ) (old new : Option (List ℕ)) (start : SkipOther (Unwrap (ItemReader R EventLines)) Global) (stopped : Stopped (SkipOther (Unwrap (ItemReader R EventLines)) Global) (ReplayStop (ItemFault ListCause))) →
+      BeginsList left told (under (beneath start)) → (beneath start).unwraps ≡ unwraps → passed_over start ≡ no_tally →
+      OverWrites style asked (record { answers = λ before answer after. Skips (UnwrapsEach (lines left told)) before answer after; number = number; faults = list_faults }) list_last start stopped old new →
+      (given : List ℕ) × GivesOctets (item_state left told (under (beneath start))).left (item_state left told (under (beneath stopped.reader))).left given
+      × PassesOver (with_each (unwrap_where unwraps) (listing event_rules First (item_state left told (under (beneath stopped.reader))).ending 0 given)) stopped.ending (ReachesInList (item_state left told (under (beneath stopped.reader))).ending given) (passed_over stopped.reader)
+  list_passes number old new start stopped begins is none w =
+      elim (reads (record { answers = λ before answer after. Skips (UnwrapsEach (lines left told)) before answer after; number = number; faults = list_faults }) list_last start stopped style old new asked w) [
+        | inl same ↦ rw same ([], none_given _, rw begins.is_open (passes_none _ stopped.ending _ _ (ap (each_made (unwrap_where unwraps)) no_event) none_in_list none))
+        | inr r ↦
+            let g = r.gave in
+            let came = leaves_what_came (UnwrapsEach (lines left told)) start g.before r.items g.gave in
+            let state : ItemReader R EventLines → ReaderState EventLines = λ x. item_state left told x in
+            let z = (state (under (beneath stopped.reader))).ending in
+            let read = unwrapped_read (lines left told) (list_input event_rules First) (λ x. (state x).left) (λ x. (state x).ending) unwraps (beneath start) (beneath stopped.reader) is (list_reads left told (under (beneath start)) (under (beneath stopped.reader)) begins)
+            (beneath g.before) came.0 g.answered.given came.1 g.answered.read in
+            let stands = read.2.stands in
+            let many = as_many unwraps came.0 stands.said stands.are_made in
+            let far = list_reaches z read.0 stands.said stands.stands.line in (
+              read.0,
+              read.1,
+              passes_by _ came.0 g.answered.given stopped.ending (ReachesInList z read.0) (passed_over stopped.reader) (read.2.onward, read.2.says, read.2.tells)
+                  (λ a. stop_left g.answered.given (subst (λ (x : AnswerOf (Event Global) (ItemFault ListCause)). AtStop x) g.answered.left (r.all a)))
+                  (subst (λ (n : ℕ). ReachesInList z read.0 n) many far.0) (subst (λ (n : ℕ). ReachesInList z read.0 (n + 1)) many far.1)
+                  (g.answered.kept ∙ ap (λ (t : Tally). pass_answer g.answered.given t) (came.3 ∙ ap (λ (t : Tally). pass_all (passed_in came.0) t) none)),
+            )
+      ]

@@ -11,8 +11,10 @@ use Rattle.list_core.specs.Items.{Numbered, listing}
 use Rattle.capture_core.specs.Captured.{captured_events}
 use Rattle.frame_core.specs.PassedOver.{Tally, no_tally, pass_all}
 use Rattle.frame_core.specs.SkipOther.{passed_in}
+use Rattle.unwrap_core.specs.UnwrapEvents.{unwrap_where}
 use Rattle.engine_core.specs.declared.ending.Ending.{Ending}
 use Rattle.engine_core.specs.declared.ending.Ending.TheVariants.{Done, Findings, InputFault, ReadFault, WriteFault, Memory}
+use Rattle.engine_core.specs.MadeRun.{with_each}
 use Rattle.engine_core.specs.Run.{AtLine}
 use Rattle.task_engine.specs.declared.stop.Stop.{Stop}
 use Rattle.task_engine.specs.declared.performed.Told.{Told}
@@ -51,20 +53,20 @@ ReachesInList z octets read =
     AtLine (event_rules {A = Global}) First z octets (take read (listing (event_rules {A = Global}) First z 0 octets).items)
     ⊎ AtLine (event_rules {A = Global}) First z octets (take (read - 1) (listing (event_rules {A = Global}) First z 0 octets).items)
 
--- so of what a capture tells, or of what a list says
-abbrev pub PassesInput : Bool → Ending → InputEnd → List ℕ → Tally → Type 0
-PassesInput true ending z read tally = PassesOver (captured_events z read) ending (ReachesInCapture read) tally
-PassesInput false ending z read tally = PassesOver (listing event_rules First z 0 read) ending (ReachesInList z read) tally
+-- so of what a capture tells, or of what a list says, each frame unwrapped where frames are
+abbrev pub PassesInput : Bool → Bool → Ending → InputEnd → List ℕ → Tally → Type 0
+PassesInput unwraps true ending z read tally = PassesOver (with_each (unwrap_where unwraps) (captured_events z read)) ending (ReachesInCapture read) tally
+PassesInput unwraps false ending z read tally = PassesOver (with_each (unwrap_where unwraps) (listing event_rules First z 0 read)) ending (ReachesInList z read) tally
 
 -- octets that the reader gave are an input of which that is kept
-abbrev pub PassesGiven : Bool → Ending → InputEnd → Option (List ℕ) → Option (List ℕ) → Tally → Type 0
-PassesGiven is_capture ending z left after tally = (given : List ℕ) × GivesOctets left after given × PassesInput is_capture ending z given tally
+abbrev pub PassesGiven : Bool → Bool → Ending → InputEnd → Option (List ℕ) → Option (List ℕ) → Tally → Type 0
+PassesGiven unwraps is_capture ending z left after tally = (given : List ℕ) × GivesOctets left after given × PassesInput unwraps is_capture ending z given tally
 
 -- what is handed out of the frames that were passed over: that, where frames are, and else nothing
-abbrev pub PassesWhere : Bool → Bool → Ending → InputEnd → Option (List ℕ) → Option (List ℕ) → Option Tally → Type 0
-PassesWhere true is_capture ending z left after passed = (tally : Tally) × (passed ≡ Some tally) × PassesGiven is_capture ending z left after tally
-PassesWhere false is_capture ending z left after passed = passed ≡ None
+abbrev pub PassesWhere : Bool → Bool → Bool → Ending → InputEnd → Option (List ℕ) → Option (List ℕ) → Option Tally → Type 0
+PassesWhere true unwraps is_capture ending z left after passed = (tally : Tally) × (passed ≡ Some tally) × PassesGiven unwraps is_capture ending z left after tally
+PassesWhere false unwraps is_capture ending z left after passed = passed ≡ None
 
 -- The frames of other protocols that are handed out are those among the events that were read, where they are passed over.
 abbrev pub RequestPasses : Options → Asked → Ending → InputEnd → Option (List ℕ) → Option (List ℕ) → Option Tally → Type 0
-RequestPasses options asked ending z left after passed = PassesWhere (takes_options asked && options.skips_other) options.is_capture ending z left after passed
+RequestPasses options asked ending z left after passed = PassesWhere (takes_options asked && options.skips_other) options.unwraps options.is_capture ending z left after passed

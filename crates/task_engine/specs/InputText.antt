@@ -10,6 +10,7 @@ use Rattle.list_core.specs.ListReader.{list_fault_of}
 use Rattle.capture_core.specs.declared.capture_fault.CaptureCause.{CaptureCause}
 use Rattle.capture_core.specs.declared.capture_fault.CaptureFault.{CaptureFault}
 use Rattle.frame_core.specs.SkipOther.{skip_other}
+use Rattle.unwrap_core.specs.UnwrapEvents.{unwrap_where}
 use Rattle.text_core.specs.LineText.{capture_line, list_fault_line}
 use Rattle.object_core.specs.EventObject.{capture_fault_object, list_fault_object}
 use Rattle.engine_core.specs.declared.style.Style.{Style}
@@ -27,18 +28,18 @@ use Rattle.task_engine.specs.EventTasks.{Ended, TaskLeaves, left_of}
 
 -- ---- the inputs
 
--- what is made of each event: where frames of other protocols are passed over, what is left of it
-abbrev pub made_by : Bool → Event Global → Event Global
-made_by true event = skip_other event
-made_by false event = event
+-- the events of an input, each frame unwrapped where frames are, and then, where frames of other protocols are passed over, what is left of each event
+abbrev pub looked_at : {C F : Type 0} → Bool → Bool → Input (Event Global) C F → Input (Event Global) C F
+looked_at unwraps true input = made skip_other (made (unwrap_where unwraps) input)
+looked_at unwraps false input = made (unwrap_where unwraps) input
 
--- the events of a list, or what is made of each
-abbrev pub list_events : Bool → Input (Event Global) ListCause (ItemFault ListCause)
-list_events skips = made (made_by skips) (list_input event_rules First)
+-- the events of a list so
+abbrev pub list_events : Bool → Bool → Input (Event Global) ListCause (ItemFault ListCause)
+list_events unwraps skips = looked_at unwraps skips (list_input event_rules First)
 
 -- those of a capture
-abbrev pub capture_events : Bool → Input (Event Global) CaptureCause CaptureFault
-capture_events skips = made (made_by skips) capture_input
+abbrev pub capture_events : Bool → Bool → Input (Event Global) CaptureCause CaptureFault
+capture_events unwraps skips = looked_at unwraps skips capture_input
 
 -- how the fault of a list is written
 abbrev pub list_last : FaultText (ItemFault ListCause)
@@ -69,7 +70,7 @@ Tells {F} of EndsBy told = (by : Option F) × EndsBy by × (told ≡ option_map 
 abbrev pub EventsTell : {C F : Type 0} → (F → Stop) → Style → Asked → Input (Event Global) C F → FaultText F → Ended → Option Stop → Type 0
 EventsTell of style asked input last end told = Tells (of_stop of) (λ by. TaskLeaves style asked (left_of style input last end) end.ending by end.old end.new) told
 
--- the same of a capture or of a list, where frames of other protocols are passed over or are not
-abbrev pub InputTells : Bool → Bool → Style → Asked → Ended → Option Stop → Type 0
-InputTells true skips style asked end told = EventsTell stop.Packet style asked (capture_events skips) capture_last end told
-InputTells false skips style asked end told = EventsTell of_list style asked (list_events skips) list_last end told
+-- the same of a capture or of a list, where frames are unwrapped or are not, and frames of other protocols passed over or are not
+abbrev pub InputTells : Bool → Bool → Bool → Style → Asked → Ended → Option Stop → Type 0
+InputTells true unwraps skips style asked end told = EventsTell stop.Packet style asked (capture_events unwraps skips) capture_last end told
+InputTells false unwraps skips style asked end told = EventsTell of_list style asked (list_events unwraps skips) list_last end told

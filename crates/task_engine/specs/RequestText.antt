@@ -32,11 +32,11 @@ is_plain writes.Objects = false
 
 -- some option is given
 abbrev pub has_option : Options → Bool
-has_option options = options.is_capture || (options.skips_other || not (is_plain options.writes))
+has_option options = options.is_capture || (options.skips_other || (options.unwraps || not (is_plain options.writes)))
 
 -- what a task over events leaves by these options, and what is told
 abbrev pub EventsWrite : Options → Asked → Ended → Option Stop → Type 0
-EventsWrite options asked end told = InputTells options.is_capture options.skips_other (style_of options) asked end told
+EventsWrite options asked end told = InputTells options.is_capture options.unwraps options.skips_other (style_of options) asked end told
 
 -- that, where some option is given; else what it leaves of a list
 abbrev pub WritesBy : Bool → Options → Asked → Ended → Option Stop → Type 0

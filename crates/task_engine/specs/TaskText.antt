@@ -47,4 +47,4 @@ TaskWrites (replay blocks) end told = Tells (of_stop of_list) (λ by. ReplayWrit
 TaskWrites publish end told = Tells stop.Script (λ fault. OfKind (IsPublishText {A = Global}) (λ t. LeavesText script_rules scripts.First t end fault)) told
 TaskWrites (watch period id) end told = Tells of_list (λ fault. OfKind (IsWatchText {A = Global} period id) (λ t. EventsLeft t end fault)) told
 TaskWrites import end told = Tells stop.Capture (ImportsTo Open end.ending end.source end.read end.old end.new) told
-TaskWrites (losses period) end told = InputTells false false (styles.Lines forms.Text) (losses period) end told
+TaskWrites (losses period) end told = InputTells false false false (styles.Lines forms.Text) (losses period) end told

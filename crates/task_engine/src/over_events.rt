@@ -1,5 +1,5 @@
-//! Tasks by options: over the events of a list or of a capture, or over what is left of them where frames of other protocols are
-//! passed over, in a style. Each reader of events has a function of its own, so that it takes its room on the stack only where it is read.
+//! Tasks by options: over the events of a list or of a capture, each frame unwrapped where frames are, or over what is left of them
+//! where frames of other protocols are passed over, in a style. Each reader of events has a function of its own, so that it takes its room on the stack only where it is read.
 ghost use Rattle.std.specs.Prelude.{◌≡◌, ℕ, List, false, true};
 ghost use Rattle.list_core.specs.declared.device.InputEnd.{InputEnd};
 ghost use Rattle.list_core.specs.Device.{GivesOctets};
@@ -12,7 +12,7 @@ ghost use Rattle.task_engine.specs.RequestText.{EventsWrite, style_of};
 
 use crate::event_tasks::EventTask;
 use crate::performed::{
-    Performed, of_packets, of_passed_events, of_passed_packets, of_styled_events,
+    Performed, of_packets, of_passed_events, of_passed_packets, of_unwrapped_events,
 };
 use capture_core::PacketReader;
 use engine_core::Style;
@@ -20,12 +20,14 @@ use frame_core::SkipOther;
 use list_core::{EventLines, ItemReader, Sink, Source};
 use object_core::{Counted, Form};
 use std::alloc::Global;
+use unwrap_core::Unwrap;
 use words_core::{Options, Writing};
 
 #[inline(never)]
 fn over_list<T: EventTask, R: Source, W: Sink>(
     alloc: Global,
     style: Style,
+    unwraps: bool,
     task: T,
     reader: R,
     writer: &mut W,
@@ -33,19 +35,20 @@ fn over_list<T: EventTask, R: Source, W: Sink>(
     requires open { R.ending reader ≡ InputEnd.Open }
     requires works { W.failed writer.old ≡ false }
     ensures text { (given : List ℕ) × GivesOctets (R.left reader) (R.left result.reader) given
-        × InputTells false false style (T.asked task) (ended result.ending (R.ending result.reader) given (W.contents writer.old) (W.contents writer.new)) (stop_of result.told) }
-    ensures passed { PassesWhere false false result.ending (R.ending result.reader) (R.left reader) (R.left result.reader) result.passed }
+        × InputTells false unwraps false style (T.asked task) (ended result.ending (R.ending result.reader) given (W.contents writer.old) (W.contents writer.new)) (stop_of result.told) }
+    ensures passed { PassesWhere false unwraps false result.ending (R.ending result.reader) (R.left reader) (R.left result.reader) result.passed }
     ensures read_fault { result.ending ≡ Ending.ReadFault → R.ending result.reader ≡ InputEnd.Failed }
     ensures fault { W.failed writer.new ≡ is_write_fault result.ending }
 {
-    let events = ItemReader::new(reader, EventLines::First);
-    of_styled_events(task.over(alloc, style, events, writer))
+    let events = Unwrap::new(ItemReader::new(reader, EventLines::First), unwraps);
+    of_unwrapped_events(task.over(alloc, style, events, writer))
 }
 
 #[inline(never)]
 fn over_capture<T: EventTask, R: Source, W: Sink>(
     alloc: Global,
     style: Style,
+    unwraps: bool,
     task: T,
     reader: R,
     writer: &mut W,
@@ -53,18 +56,20 @@ fn over_capture<T: EventTask, R: Source, W: Sink>(
     requires open { R.ending reader ≡ InputEnd.Open }
     requires works { W.failed writer.old ≡ false }
     ensures text { (given : List ℕ) × GivesOctets (R.left reader) (R.left result.reader) given
-        × InputTells true false style (T.asked task) (ended result.ending (R.ending result.reader) given (W.contents writer.old) (W.contents writer.new)) (stop_of result.told) }
-    ensures passed { PassesWhere false true result.ending (R.ending result.reader) (R.left reader) (R.left result.reader) result.passed }
+        × InputTells true unwraps false style (T.asked task) (ended result.ending (R.ending result.reader) given (W.contents writer.old) (W.contents writer.new)) (stop_of result.told) }
+    ensures passed { PassesWhere false unwraps true result.ending (R.ending result.reader) (R.left reader) (R.left result.reader) result.passed }
     ensures read_fault { result.ending ≡ Ending.ReadFault → R.ending result.reader ≡ InputEnd.Failed }
     ensures fault { W.failed writer.new ≡ is_write_fault result.ending }
 {
-    of_packets(task.over(alloc, style, PacketReader::new(alloc, reader), writer))
+    let packets = Unwrap::new(PacketReader::new(alloc, reader), unwraps);
+    of_packets(task.over(alloc, style, packets, writer))
 }
 
 #[inline(never)]
 fn over_passed_capture<T: EventTask, R: Source, W: Sink>(
     alloc: Global,
     style: Style,
+    unwraps: bool,
     task: T,
     reader: R,
     writer: &mut W,
@@ -72,12 +77,12 @@ fn over_passed_capture<T: EventTask, R: Source, W: Sink>(
     requires open { R.ending reader ≡ InputEnd.Open }
     requires works { W.failed writer.old ≡ false }
     ensures text { (given : List ℕ) × GivesOctets (R.left reader) (R.left result.reader) given
-        × InputTells true true style (T.asked task) (ended result.ending (R.ending result.reader) given (W.contents writer.old) (W.contents writer.new)) (stop_of result.told) }
-    ensures passed { PassesWhere true true result.ending (R.ending result.reader) (R.left reader) (R.left result.reader) result.passed }
+        × InputTells true unwraps true style (T.asked task) (ended result.ending (R.ending result.reader) given (W.contents writer.old) (W.contents writer.new)) (stop_of result.told) }
+    ensures passed { PassesWhere true unwraps true result.ending (R.ending result.reader) (R.left reader) (R.left result.reader) result.passed }
     ensures read_fault { result.ending ≡ Ending.ReadFault → R.ending result.reader ≡ InputEnd.Failed }
     ensures fault { W.failed writer.new ≡ is_write_fault result.ending }
 {
-    let packets = SkipOther::new(PacketReader::new(alloc, reader));
+    let packets = SkipOther::new(Unwrap::new(PacketReader::new(alloc, reader), unwraps));
     of_passed_packets(task.over(alloc, style, packets, writer))
 }
 
@@ -85,6 +90,7 @@ fn over_passed_capture<T: EventTask, R: Source, W: Sink>(
 fn over_passed_list<T: EventTask, R: Source, W: Sink>(
     alloc: Global,
     style: Style,
+    unwraps: bool,
     task: T,
     reader: R,
     writer: &mut W,
@@ -92,12 +98,12 @@ fn over_passed_list<T: EventTask, R: Source, W: Sink>(
     requires open { R.ending reader ≡ InputEnd.Open }
     requires works { W.failed writer.old ≡ false }
     ensures text { (given : List ℕ) × GivesOctets (R.left reader) (R.left result.reader) given
-        × InputTells false true style (T.asked task) (ended result.ending (R.ending result.reader) given (W.contents writer.old) (W.contents writer.new)) (stop_of result.told) }
-    ensures passed { PassesWhere true false result.ending (R.ending result.reader) (R.left reader) (R.left result.reader) result.passed }
+        × InputTells false unwraps true style (T.asked task) (ended result.ending (R.ending result.reader) given (W.contents writer.old) (W.contents writer.new)) (stop_of result.told) }
+    ensures passed { PassesWhere true unwraps false result.ending (R.ending result.reader) (R.left reader) (R.left result.reader) result.passed }
     ensures read_fault { result.ending ≡ Ending.ReadFault → R.ending result.reader ≡ InputEnd.Failed }
     ensures fault { W.failed writer.new ≡ is_write_fault result.ending }
 {
-    let events = SkipOther::new(ItemReader::new(reader, EventLines::First));
+    let events = SkipOther::new(Unwrap::new(ItemReader::new(reader, EventLines::First), unwraps));
     of_passed_events(task.over(alloc, style, events, writer))
 }
 
@@ -113,8 +119,8 @@ fn style_of(options: Options) -> Style
     }
 }
 
-/// Does what a task asks for by its options: over the events of a capture in place of a list, over what is left of events where
-/// frames of other protocols are passed over, and in the style that is asked for.
+/// Does what a task asks for by its options: over the events of a capture in place of a list, with frames unwrapped, over what is
+/// left of events where frames of other protocols are passed over, and in the style that is asked for.
 pub fn over_events<T: EventTask, R: Source, W: Sink>(
     alloc: Global,
     options: Options,
@@ -126,15 +132,16 @@ pub fn over_events<T: EventTask, R: Source, W: Sink>(
     requires works { W.failed writer.old ≡ false }
     ensures text { (given : List ℕ) × GivesOctets (R.left reader) (R.left result.reader) given
         × EventsWrite options (T.asked task) (ended result.ending (R.ending result.reader) given (W.contents writer.old) (W.contents writer.new)) (stop_of result.told) }
-    ensures passed { PassesWhere options.skips_other options.is_capture result.ending (R.ending result.reader) (R.left reader) (R.left result.reader) result.passed }
+    ensures passed { PassesWhere options.skips_other options.unwraps options.is_capture result.ending (R.ending result.reader) (R.left reader) (R.left result.reader) result.passed }
     ensures read_fault { result.ending ≡ Ending.ReadFault → R.ending result.reader ≡ InputEnd.Failed }
     ensures fault { W.failed writer.new ≡ is_write_fault result.ending }
 {
     let style = style_of(options);
+    let unwraps = options.unwraps;
     match (options.is_capture, options.skips_other) {
-        (false, false) => over_list(alloc, style, task, reader, writer),
-        (false, true) => over_passed_list(alloc, style, task, reader, writer),
-        (true, false) => over_capture(alloc, style, task, reader, writer),
-        (true, true) => over_passed_capture(alloc, style, task, reader, writer),
+        (false, false) => over_list(alloc, style, unwraps, task, reader, writer),
+        (false, true) => over_passed_list(alloc, style, unwraps, task, reader, writer),
+        (true, false) => over_capture(alloc, style, unwraps, task, reader, writer),
+        (true, true) => over_passed_capture(alloc, style, unwraps, task, reader, writer),
     }
 }

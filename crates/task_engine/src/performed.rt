@@ -3,6 +3,7 @@ ghost use Rattle.std.specs.Prelude.{◌≡◌, None, Some, option_map};
 ghost use Rattle.list_core.specs.ItemReader.{item_state};
 ghost use Rattle.capture_core.specs.PacketReader.{packet_state};
 ghost use Rattle.frame_core.specs.SkipOther.{beneath, passed_over};
+ghost use Rattle.unwrap_core.specs.UnwrapEvents.{under};
 ghost use Rattle.task_engine.specs.HandedOut.{stop_of};
 ghost use Rattle.task_engine.specs.InputText.{of_list, of_stop};
 
@@ -15,6 +16,7 @@ use frame_core::{PassedOver, SkipOther};
 use list_core::{EventLines, ItemFault, ItemReader, ListCause, Source, fault_of_list};
 use script_core::{ScriptCause, ScriptLines};
 use std::alloc::Global;
+use unwrap_core::Unwrap;
 
 /// What is told of the fault by which a task ended.
 #[derive(Drop)]
@@ -169,11 +171,11 @@ fn told_of_packets(why: Option<ReplayStop<CaptureFault>>) -> Option<Told>
 /// What a task leaves that ran over the packets of a capture.
 #[inline(never)]
 pub fn of_packets<R: Source>(
-    stopped: Stopped<PacketReader<R, Global>, ReplayStop<CaptureFault>>,
+    stopped: Stopped<Unwrap<PacketReader<R, Global>>, ReplayStop<CaptureFault>>,
 ) -> Performed<R>
     ensures ending { result.ending ≡ stopped.ending }
-    ensures left { R.left result.reader ≡ (packet_state R.left R.ending stopped.reader).left }
-    ensures source { R.ending result.reader ≡ (packet_state R.left R.ending stopped.reader).ending }
+    ensures left { R.left result.reader ≡ (packet_state R.left R.ending (under stopped.reader)).left }
+    ensures source { R.ending result.reader ≡ (packet_state R.left R.ending (under stopped.reader)).ending }
     ensures told { stop_of result.told ≡ option_map (of_stop Stop.Packet) stopped.fault }
     ensures passed { result.passed ≡ None }
 {
@@ -186,18 +188,18 @@ pub fn of_packets<R: Source>(
         ending,
         told: told_of_packets(fault),
         passed: None,
-        reader: reader.into_reader(),
+        reader: reader.into_beneath().into_reader(),
     }
 }
 
 /// What a task leaves that ran over what is left of the packets of a capture.
 #[inline(never)]
 pub fn of_passed_packets<R: Source>(
-    stopped: Stopped<SkipOther<PacketReader<R, Global>, Global>, ReplayStop<CaptureFault>>,
+    stopped: Stopped<SkipOther<Unwrap<PacketReader<R, Global>>, Global>, ReplayStop<CaptureFault>>,
 ) -> Performed<R>
     ensures ending { result.ending ≡ stopped.ending }
-    ensures left { R.left result.reader ≡ (packet_state R.left R.ending (beneath stopped.reader)).left }
-    ensures source { R.ending result.reader ≡ (packet_state R.left R.ending (beneath stopped.reader)).ending }
+    ensures left { R.left result.reader ≡ (packet_state R.left R.ending (under (beneath stopped.reader))).left }
+    ensures source { R.ending result.reader ≡ (packet_state R.left R.ending (under (beneath stopped.reader))).ending }
     ensures passed { result.passed ≡ Some (passed_over stopped.reader) }
     ensures told { stop_of result.told ≡ option_map (of_stop Stop.Packet) stopped.fault }
 {
@@ -211,7 +213,7 @@ pub fn of_passed_packets<R: Source>(
         ending,
         told: told_of_packets(fault),
         passed: Some(passed),
-        reader: packets.into_reader(),
+        reader: packets.into_beneath().into_reader(),
     }
 }
 
@@ -256,17 +258,42 @@ pub fn of_styled_events<R: Source>(
     }
 }
 
+/// What a task leaves that ran over the events of a list, unwrapped or not.
+#[inline(never)]
+pub fn of_unwrapped_events<R: Source>(
+    stopped: Stopped<Unwrap<ItemReader<R, EventLines>>, ReplayStop<ItemFault<ListCause>>>,
+) -> Performed<R>
+    ensures ending { result.ending ≡ stopped.ending }
+    ensures left { R.left result.reader ≡ (item_state R.left R.ending (under stopped.reader)).left }
+    ensures source { R.ending result.reader ≡ (item_state R.left R.ending (under stopped.reader)).ending }
+    ensures told { stop_of result.told ≡ option_map (of_stop of_list) stopped.fault }
+    ensures passed { result.passed ≡ None }
+{
+    let Stopped {
+        ending,
+        fault,
+        reader,
+    } = stopped;
+    let told = told_of_events(fault, reader.beneath());
+    Performed {
+        ending,
+        told,
+        passed: None,
+        reader: reader.into_beneath().into_reader(),
+    }
+}
+
 /// What a task leaves that ran over what is left of the events of a list.
 #[inline(never)]
 pub fn of_passed_events<R: Source>(
     stopped: Stopped<
-        SkipOther<ItemReader<R, EventLines>, Global>,
+        SkipOther<Unwrap<ItemReader<R, EventLines>>, Global>,
         ReplayStop<ItemFault<ListCause>>,
     >,
 ) -> Performed<R>
     ensures ending { result.ending ≡ stopped.ending }
-    ensures left { R.left result.reader ≡ (item_state R.left R.ending (beneath stopped.reader)).left }
-    ensures source { R.ending result.reader ≡ (item_state R.left R.ending (beneath stopped.reader)).ending }
+    ensures left { R.left result.reader ≡ (item_state R.left R.ending (under (beneath stopped.reader))).left }
+    ensures source { R.ending result.reader ≡ (item_state R.left R.ending (under (beneath stopped.reader))).ending }
     ensures passed { result.passed ≡ Some (passed_over stopped.reader) }
     ensures told { stop_of result.told ≡ option_map (of_stop of_list) stopped.fault }
 {
@@ -276,11 +303,11 @@ pub fn of_passed_events<R: Source>(
         reader,
     } = stopped;
     let (events, passed) = reader.into_parts();
-    let told = told_of_events(fault, &events);
+    let told = told_of_events(fault, events.beneath());
     Performed {
         ending,
         told,
         passed: Some(passed),
-        reader: events.into_reader(),
+        reader: events.into_beneath().into_reader(),
     }
 }

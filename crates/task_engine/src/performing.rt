@@ -146,6 +146,7 @@ fn perform_watch<R: Source, W: Sink>(
 const NO_OPTION: Options = Options {
     is_capture: false,
     skips_other: false,
+    unwraps: false,
     writes: Writing::Lines,
 };
 
@@ -163,7 +164,7 @@ fn perform_losses<R: Source, W: Sink>(
     requires period { IsPeriodOf period }
     ensures text { (given : List ℕ) × GivesOctets (R.left reader) (R.left result.reader) given
         × EventsWrite options (losses period) (ended result.ending (R.ending result.reader) given (W.contents writer.old) (W.contents writer.new)) (stop_of result.told) }
-    ensures passed { PassesWhere options.skips_other options.is_capture result.ending (R.ending result.reader) (R.left reader) (R.left result.reader) result.passed }
+    ensures passed { PassesWhere options.skips_other options.unwraps options.is_capture result.ending (R.ending result.reader) (R.left reader) (R.left result.reader) result.passed }
     ensures read_fault { result.ending ≡ Ending.ReadFault → R.ending result.reader ≡ InputEnd.Failed }
     ensures fault { W.failed writer.new ≡ is_write_fault result.ending }
 {
@@ -214,11 +215,14 @@ pub fn perform<R: Source, W: Sink>(
 fn has_option(options: Options) -> bool
     ensures { result ≡ has_option options }
 {
-    options.is_capture || options.skips_other || !matches!(&options.writes, Writing::Lines)
+    options.is_capture
+        || options.skips_other
+        || options.unwraps
+        || !matches!(&options.writes, Writing::Lines)
 }
 
-/// Does what a task asks for, by its options: of a capture in place of a list, with the frames of other protocols passed over, and
-/// with each line behind the date of its event, or as an object. Tasks that take no options are done as without.
+/// Does what a task asks for, by its options: of a capture in place of a list, with frames unwrapped, with those of other protocols passed
+/// over, and with each line behind the date of its event, or as an object. Tasks that take no options are done as without.
 ///
 /// The reader is Open and the writer has not failed. What is written is the text of the task over the events of the capture, or
 /// over what is left of the events, in the style of the options.

@@ -11,7 +11,7 @@ use Rattle.clap.specs.Walk.{has_row, reading_by, row_text, stronger, used, with_
 use Rattle.clap.specs.declared.builder.value_parser.Reading.{Reading}
 use Rattle.clap.specs.declared.parser.matches.ValueSource.{ValueSource}
 use Rattle.clap.specs.declared.parser.matches.ValueSource.TheVariants.{CommandLine, DefaultValue}
-use Rattle.words_core.specs.RequestLine.{Switch, capture, is_set, json, option_named, skip_other, switch_name, switch_word, time, times}
+use Rattle.words_core.specs.RequestLine.{Switch, capture, is_set, json, option_named, skip_other, switch_name, switch_word, time, times, unwrap}
 
 abbrev pub once_if : Bool → ℕ
 once_if b = if b then 1 else 0
@@ -160,6 +160,7 @@ not_given rows n o c e = go (n o) (sym (ap is_some (c.at o)) ∙ sym (has_at (sw
 one_name : (s o : Switch) → bytes_eq (switch_name s) (switch_name o) ≡ true → s ≡ o
 one_name capture capture e = refl
 one_name skip_other skip_other e = refl
+one_name unwrap unwrap e = refl
 one_name time time e = refl
 one_name json json e = refl
 one_name _ _ e = absurd (true≢false (sym e))

@@ -58,7 +58,7 @@ watches = record { two = refl; most = refl; joined = refl }
 
 -- a request with these options
 abbrev wishes : Asked → Bool → Bool → Writing → Option Wish
-wishes t is_capture skips_other writes = Some (Ok (t, record { is_capture = is_capture; skips_other = skips_other; writes = writes }))
+wishes t is_capture skips_other writes = Some (Ok (t, record { is_capture = is_capture; skips_other = skips_other; unwraps = false; writes = writes }))
 
 -- the options are those that stand behind the name, in any order, before the mark, once, of a command that takes them, and
 -- none that another excludes
@@ -67,6 +67,7 @@ pub record AreRequests : Type 0 where
   pub one : request_of_words (codes "goose" ∷ codes "show" ∷ codes "--capture" ∷ []) ≡ wishes show true false Lines
   pub both : request_of_words (codes "goose" ∷ codes "check" ∷ codes "--skip-other" ∷ codes "--capture" ∷ codes "--" ∷ []) ≡ wishes check true true Lines
   pub objects : request_of_words (codes "goose" ∷ codes "show" ∷ codes "--json" ∷ []) ≡ wishes show false false Objects
+  pub unwraps : request_of_words (codes "goose" ∷ codes "show" ∷ codes "--unwrap" ∷ codes "--skip-other" ∷ []) ≡ Some (Ok (show, record { is_capture = false; skips_other = true; unwraps = true; writes = Lines }))
   pub dated : request_of_words (codes "goose" ∷ codes "blocks" ∷ codes "--time" ∷ codes "--capture" ∷ []) ≡ wishes list_blocks true false Dated
   pub between : request_of_words (codes "goose" ∷ codes "watch" ∷ codes "--id=A" ∷ codes "--capture" ∷ codes "--period" ∷ codes "2" ∷ []) ≡ wishes (watch 2 (codes "A")) true false Lines
   pub twice : takes request_line (codes "goose" ∷ codes "show" ∷ codes "--capture" ∷ codes "--capture" ∷ []) ≡ false
@@ -86,6 +87,7 @@ requests = record {
   one = refl;
   both = refl;
   objects = refl;
+  unwraps = refl;
   dated = refl;
   between = refl;
   twice = refl;

@@ -23,16 +23,18 @@ use Rattle.block_core.specs.Period.{IsPeriod}
 pub data Switch : Type 0 where
   capture : Switch
   skip_other : Switch
+  unwrap : Switch
   time : Switch
   json : Switch
 
 abbrev pub switches : List Switch
-switches = capture ∷ skip_other ∷ time ∷ json ∷ []
+switches = capture ∷ skip_other ∷ unwrap ∷ time ∷ json ∷ []
 
 -- the name of an option
 abbrev pub switch_name : Switch → Text
 switch_name capture = codes "capture"
 switch_name skip_other = codes "skip-other"
+switch_name unwrap = codes "unwrap"
 switch_name time = codes "time"
 switch_name json = codes "json"
 
@@ -50,6 +52,7 @@ is_object _ = false
 abbrev pub is_on : Options → Switch → Bool
 is_on options capture = options.is_capture
 is_on options skip_other = options.skips_other
+is_on options unwrap = options.unwraps
 is_on options time = is_dated options.writes
 is_on options json = is_object options.writes
 
@@ -87,7 +90,9 @@ writing_by true true = None
 
 -- the options that the matches of a subcommand give; none where two exclude each other
 abbrev pub options_in : List Row → Option Options
-options_in rows = option_map (λ writes. record { is_capture = is_set (switch_name capture) rows; skips_other = is_set (switch_name skip_other) rows; writes = writes })
+options_in rows =
+    option_map
+    (λ writes. record { is_capture = is_set (switch_name capture) rows; skips_other = is_set (switch_name skip_other) rows; unwraps = is_set (switch_name unwrap) rows; writes = writes })
     (writing_by (is_set (switch_name time) rows) (is_set (switch_name json) rows))
 
 -- what the matches of a subcommand ask for: a task with options, or none because of the text at this position

@@ -25,6 +25,8 @@ pub struct Options {
     pub is_capture: bool,
     /// A frame whose first error is its EtherType tells only that time has passed; such frames are counted.
     pub skips_other: bool,
+    /// Frames are looked at without HSR tags, and without each VLAN tag before another; before frames are skipped.
+    pub unwraps: bool,
     /// How each line is written.
     pub writes: Writing,
 }
@@ -38,6 +40,9 @@ const CAPTURE_HELP: &str = "Reads a capture (classic or pcapng) in place of a li
 // What the help says of `--skip-other`.
 const SKIP_OTHER_HELP: &str =
     "Takes frames of other EtherTypes as a sign that time passes, and counts them";
+
+// What the help says of `--unwrap`.
+const UNWRAP_HELP: &str = "Looks at frames without HSR tags, and without VLAN tags before another";
 
 // What the help says of `--time`.
 const TIME_HELP: &str = "Begins each line with the date of its event, in UTC";
@@ -75,6 +80,7 @@ fn with_each<'a>(alloc: Global, command: Made<'a>) -> Made<'a>
 {
     let command = with_arg(command, flag_option(alloc, "capture", CAPTURE_HELP));
     let command = with_arg(command, flag_option(alloc, "skip-other", SKIP_OTHER_HELP));
+    let command = with_arg(command, flag_option(alloc, "unwrap", UNWRAP_HELP));
     let command = with_arg(command, flag_option(alloc, "time", TIME_HELP));
     with_arg(command, flag_option(alloc, "json", JSON_HELP))
 }
@@ -140,10 +146,12 @@ pub fn options_met(matches: &ArgMatches<'_>) -> Option<Options>
 {
     let is_capture = is_set(matches, "capture");
     let skips_other = is_set(matches, "skip-other");
+    let unwraps = is_set(matches, "unwrap");
     match writing_by(is_set(matches, "time"), is_set(matches, "json")) {
         Some(writes) => Some(Options {
             is_capture,
             skips_other,
+            unwraps,
             writes,
         }),
         None => None,

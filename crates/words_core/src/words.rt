@@ -498,7 +498,7 @@ fn read_line<'a>(alloc: Global, words: &'a [&'a str]) -> Result<Request, WordsEr
     }
 }
 
-/// The task that the words ask for, and its options: `--capture`, `--skip-other`, `--time` and `--json`,
+/// The task that the words ask for, and its options: `--capture`, `--skip-other`, `--unwrap`, `--time` and `--json`,
 /// which the commands `show`, `check`, `blocks`, `replay`, `watch` and `losses` take. The first word is the program's name.
 ///
 /// # Errors

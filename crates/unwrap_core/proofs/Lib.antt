@@ -1,0 +1,4 @@
+pub mod TagLaws
+pub mod UnwrappedLaws
+pub mod UnwrappedEvents
+pub mod StandardFacts

@@ -1,0 +1,4 @@
+pub mod Tags
+pub mod Unwrapped
+pub mod UnwrapEvents
+pub mod Laws

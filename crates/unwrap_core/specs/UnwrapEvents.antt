@@ -1,0 +1,50 @@
+-- Events of which each frame is looked at without what was put round it.
+use Rattle.std.specs.Prelude.{◌≡◌, ℕ, List, map, Bool, true, false, Option, Some, None, Ok, Err}
+use Rattle.list_core.specs.declared.event.Event.{Event}
+use Rattle.list_core.specs.declared.event.EventKind.{EventKind}
+use Rattle.list_core.specs.declared.event.EventKind.TheVariants.{Frame, Clock, Mode}
+use Rattle.list_core.specs.ReadItems.{AnswerOf, Gave}
+use Rattle.unwrap_core.specs.Unwrapped.{unwrapped}
+use Rattle.unwrap_core.specs.declared.unwrap.Unwrap.{Unwrap}
+
+-- what happened, a frame of it unwrapped
+abbrev pub unwrap_kind : {A : Type 0} → EventKind A → EventKind A
+unwrap_kind (Frame o) = Frame (unwrapped o)
+unwrap_kind Clock = Clock
+unwrap_kind (Mode on) = Mode on
+
+-- an event, its frame unwrapped
+abbrev pub unwrap_event : {A : Type 0} → Event A → Event A
+unwrap_event e = record { moment = e.moment; kind = unwrap_kind e.kind }
+
+-- the same, where frames are unwrapped
+abbrev pub unwrap_where : {A : Type 0} → Bool → Event A → Event A
+unwrap_where true e = unwrap_event e
+unwrap_where false e = e
+
+-- an answer, its event unwrapped where frames are
+abbrev pub unwrap_answer : {A F : Type 0} → Bool → AnswerOf (Event A) F → AnswerOf (Event A) F
+unwrap_answer unwraps (Ok None) = Ok None
+unwrap_answer unwraps (Ok (Some e)) = Ok (Some (e.0, unwrap_where unwraps e.1))
+unwrap_answer unwraps (Err f) = Err f
+
+-- the reader whose events they are
+abbrev pub under : {I : Type 0} → Unwrap I → I
+under s = s.items
+
+-- The reader beneath gave an answer. This one is the same with its frame unwrapped, where frames are, and it stays so.
+pub record UnwrapsEach {I A F : Type 0} (answers : I → AnswerOf (Event A) F → I → Type 0) (old : Unwrap I) (answer : AnswerOf (Event A) F) (new : Unwrap I) : Type 0 where
+  pub given : AnswerOf (Event A) F
+  pub read : answers (under old) given (under new)
+  pub made : answer ≡ unwrap_answer old.unwraps given
+  pub stays : new.unwraps ≡ old.unwraps
+
+-- an event with its number, unwrapped where frames are
+abbrev pub unwrap_numbered : {A : Type 0} → Bool → ℕ × Event A → ℕ × Event A
+unwrap_numbered unwraps e = (e.0, unwrap_where unwraps e.1)
+
+-- What was answered one after another are the events that the reader beneath gave, unwrapped where frames are.
+abbrev pub UnwrapsWhatCame : {I A F : Type 0} → (I → AnswerOf (Event A) F → I → Type 0) → Type 0
+UnwrapsWhatCame {I = I} {A = A} answers =
+    (start end : Unwrap I) (es : List (ℕ × Event A)) → Gave (UnwrapsEach answers) start es end
+    → (given : List (ℕ × Event A)) × Gave answers (under start) given (under end) × (es ≡ map (unwrap_numbered start.unwraps) given) × (end.unwraps ≡ start.unwraps)
