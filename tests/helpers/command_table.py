@@ -101,12 +101,17 @@ def options():
     return {f"--{name}": texts[said[name]] for name in (code(names[it]) for it in listed(specs, "switches"))}
 
 
+def reading():
+    """The option that each command has, and its sentence of help."""
+    sources = (SOURCES / "option_words.rt").read_text()
+    return f"--{code(definition((SPECS / 'RequestLine.antt').read_text(), 'read_rule'))}", re.search(rf"const READ_HELP: &str = {TEXT};", sources)[1]
+
+
 def usage(command):
-    """A command's own words as its help writes them."""
+    """A command's own words as its help writes them, behind the options, of which each command has one at least."""
     words = [" ".join(it for it in (f"--{own.name}", f"<{own.value}>") if it) if own.is_option else f"<{own.name}>..."
              for own in command.own if own.is_required]
-    is_open = command.takes_options or len(words) < len(command.own)
-    return "".join(f" {it}" for it in (["[OPTIONS]"] if is_open else []) + words)
+    return "".join(f" {it}" for it in ["[OPTIONS]", *words])
 
 
 def called(command):

@@ -1,7 +1,7 @@
 """What the commands that read events write of a list or of a capture, by the slow programs."""
 from oracles import dates, inventory, losses, objects, packets, reference, skipping, subscriber, unwrapping, watcher
 
-COMMANDS = tuple(name for name, words in reference.TAKES.items() if "[OPTIONS]" in words)
+COMMANDS = "show", "check", "blocks", "replay", "watch", "losses"
 CAPTURE, SKIP, UNWRAP, TIME, JSON = "--capture", "--skip-other", "--unwrap", "--time", "--json"
 OPTIONS = set(reference.OPTIONS)
 

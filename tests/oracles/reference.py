@@ -662,12 +662,14 @@ HELP = {
     "import": "Reads a capture (classic libpcap, as tcpdump -w writes) and writes it as a list",
 }
 # The words behind a command's name, as its help writes them, and what help says of the options.
-TAKES = {"show": " [OPTIONS]", "check": " [OPTIONS]", "blocks": " [OPTIONS]", "replay": " [OPTIONS] <BLOCK>...",
-         "watch": " [OPTIONS] --period <N> --id <TEXT>", "losses": " [OPTIONS]"}
+TAKES = {"show": " [OPTIONS]", "check": " [OPTIONS]", "rewrite": " [OPTIONS]", "blocks": " [OPTIONS]", "replay": " [OPTIONS] <BLOCK>...",
+         "publish": " [OPTIONS]", "watch": " [OPTIONS] --period <N> --id <TEXT>", "losses": " [OPTIONS]", "import": " [OPTIONS]"}
+READ = "-r, --read <FILE> Reads FILE in place of standard input, which - stands for"
 OPTIONS = {
     "--capture": "Reads a capture (classic or pcapng) in place of a list",
     "--skip-other": "Takes frames of other EtherTypes as a sign that time passes, and counts them",
     "--unwrap": "Looks at frames without HSR tags, and without VLAN tags before another",
+    "--raw": "With -r: passes over no frames, and looks at them with all tags",
     "--time": "Begins each line with the date of its event, in UTC",
     "--json": "Writes JSON objects, one a line, in place of text",
 }

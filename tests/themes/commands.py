@@ -15,6 +15,7 @@ from themes.devices import words
 
 TOP = pathlib.Path(__file__).resolve().parent.parent.parent
 COMMANDS, OPTIONS, INTAKES = list(command_table.commands()), command_table.options(), command_table.intakes()
+READ, READ_HELP = command_table.reading()
 NAMES = [it.name for it in COMMANDS]
 ON_EVENTS = [it.name for it in COMMANDS if it.takes_options]
 # What a terminal is told of each sort of input.
@@ -67,7 +68,7 @@ class Helps:
         wanted += [f" --{own.name} <{own.value}>" for own in command.own if own.value and own.is_option]
         yield from (f"goose {command.name} --help does not say {it!r}" for it in wanted if it not in told)
         listed = dict(re.findall(r"(?m)^ +(?:-\w, )?(--[\w-]+)(?: <\w+>)? +(.*)$", told))
-        said = {**(OPTIONS if command.takes_options else {}), "--help": "Print help"}
+        said = {READ: READ_HELP, **(OPTIONS if command.takes_options else {}), "--help": "Print help"}
         others = {f"--{own.name}" for own in command.own if own.is_option}
         if set(listed) != set(said) | others or any(listed[it] != text for it, text in said.items()):
             yield f"goose {command.name} --help lists {listed}"
@@ -117,7 +118,7 @@ class Completes:
         yield ["goose", ""], [*NAMES, "--help", "--version"]
         for command in COMMANDS:
             own = [f"--{it.name}" for it in command.own if it.is_option]
-            yield ["goose", command.name, "--"], [*(OPTIONS if command.takes_options else ()), *own, "--help"]
+            yield ["goose", command.name, "--"], [READ, *(OPTIONS if command.takes_options else ()), *own, "--help"]
 
 
 def part(text, heading):
@@ -151,14 +152,14 @@ def manual_synopsis():
 
 def wanted_synopsis(command):
     shared = [f"Op Fl -{it[2:]}" for it in OPTIONS] if command.takes_options else []
-    return sorted([*shared, *map(command_table.in_manual, command.own)])
+    return sorted(["Op Fl r Ar file", *shared, *map(command_table.in_manual, command.own)])
 
 
 def documents():
     yield Equal("the commands of docs/FORMATS.md", lambda: of_formats()[0],
                 [(command_table.called(it), INTAKES[it.name], it.help) for it in COMMANDS])
     yield Equal("the options of docs/FORMATS.md", lambda: of_formats()[1], OPTIONS)
-    yield Says("docs/FORMATS.md", f"| Option of {enumerated(ON_EVENTS)} |")
+    yield Says("docs/FORMATS.md", f"| Option of {enumerated(ON_EVENTS)} |", f"| `-r FILE`, `{READ} FILE`, of every command | {READ_HELP} |")
     yield Equal("the synopsis of docs/goose.1", lambda: {name: [it.rstrip() for it in words] for name, words in manual_synopsis().items()},
                 {it.name: wanted_synopsis(it) for it in COMMANDS})
     yield Equal("the commands of docs/goose.1", lambda: sorted(of_manual()[1]),

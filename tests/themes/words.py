@@ -9,7 +9,8 @@ import tempfile
 from helpers.capture_parts import header, record
 from helpers.frames import WORKED
 from helpers.harness import SECONDS, Case, clipped, listed
-from oracles.reference import ABOUT, HELP, OPTIONS, TAKES, VERSION
+from oracles import reading
+from oracles.reference import ABOUT, HELP, OPTIONS, READ, TAKES, VERSION
 
 TOP = pathlib.Path(__file__).resolve().parent.parent.parent
 # What help says of the exit statuses above 1.
@@ -39,7 +40,7 @@ OWN_WORDS = {
 RIGHT = {
     b"unrecognized subcommand": f"\nThe commands are {' and '.join(', '.join(HELP).rsplit(', ', 1))}; goose --help says what each does. "
                                 "A page of a capture: goose-report FILE, in a checkout tools/report FILE\n".encode(),
-    b"unexpected argument": b"\nA list, script or capture is read from standard input: goose COMMAND < FILE; ",
+    b"unexpected argument": b"\nA list, script or capture is read by its name: goose COMMAND -r FILE; ",
     b"invalid value": b"\nN is a whole number from 2 to 65536: ",
     b"requires a subcommand": f"\n  [subcommands: {', '.join(HELP)}]\n".encode(),
     b"each argument": b" must be text in UTF-8, ",
@@ -159,8 +160,8 @@ def helps():
         yield Helps([word], [ABOUT, "Usage: goose <COMMAND>", *[f"{name} {said}" for name, said in HELP.items()],
                              "-h, --help Print help", "-V, --version Print version"])
         for name, said in HELP.items():
-            options = [f"{option} {text}" for option, text in OPTIONS.items()] if "[OPTIONS]" in TAKES.get(name, "") else []
-            yield Helps([name, word], [said, f"Usage: goose {name}{TAKES.get(name, '')}", *options, "-h, --help Print help"],
+            options = [f"{option} {text}" for option, text in OPTIONS.items()] if name in reading.COMMANDS else []
+            yield Helps([name, word], [said, f"Usage: goose {name}{TAKES[name]}", READ, *options, "-h, --help Print help"],
                         [ABOUT, *[other for other in HELP.values() if other != said]])
     yield Begins(["--help"])
     yield Same(["help"], ["--help"])
@@ -181,7 +182,7 @@ def refusals():
         (["-x"], b"'-x'"), ([b"sh\xffow"], b"UTF-8"), (["show", b"\xff"], b"UTF-8"),
     ):
         yield Refuses(words, named)
-    for name in (it for it in HELP if "<" not in TAKES.get(it, "")):
+    for name in (it for it in HELP if "<" not in TAKES[it]):
         for words, named in (
             ([name, "more"], b"'more'"), ([name, name], f"'{name}'".encode()), ([name, "--nothing"], b"'--nothing'"),
             ([name, "--version"], b"'--version'"), ([name, "--", "more"], b"'more'"), (["--", name], f"'{name}'".encode()),
@@ -211,7 +212,7 @@ def refusals():
     ):
         yield Refuses(words, named)
     for words, named in (
-        *(([name, option], f"'{option}'".encode()) for name in HELP if name not in TAKES for option in OPTIONS),
+        *(([name, option], f"'{option}'".encode()) for name in HELP if name not in reading.COMMANDS for option in OPTIONS),
         *(([option, "show"], f"'{option}'".encode()) for option in OPTIONS), (["show", "--cap"], b"'--cap'"),
         (["show", "--skip_other"], b"'--skip_other'"), (["check", "--", "--capture"], b"'--capture'"),
         (["blocks", "--capture", "--capture"], b"'--capture'"), (["show", "--skip-other", "--capture", "--skip-other"], b"'--skip-other'"),

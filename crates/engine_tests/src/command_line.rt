@@ -234,7 +234,7 @@ fn request_named(
     skips_other: bool,
 ) -> &'static str {
     match read_request(rt.alloc(), words) {
-        Ok(Request { task, options })
+        Ok(Request { task, options, .. })
             if options.is_capture == is_capture && options.skips_other == skips_other => {
             task.name()
         }
@@ -334,10 +334,38 @@ fn a_request_has_its_options(rt: HostRuntime) {
     }
 }
 
+// The file that these words name, if they ask for something.
+fn file_named<'a>(rt: &HostRuntime, words: &'a [&'a str]) -> Option<&'a str> {
+    match read_request(rt.alloc(), words) {
+        Ok(request) => request.file,
+        Err(_) => None,
+    }
+}
+
+// Words, and the file that they name.
+const FILES: [(&[&str], Option<&str>); 6] = [
+    (&["goose", "show"], None),
+    (&["goose", "show", "-r", "a.pcap"], Some("a.pcap")),
+    (&["goose", "losses", "--time", "-ra.pcap"], Some("a.pcap")),
+    (&["goose", "import", "--read=a.pcap"], Some("a.pcap")),
+    (&["goose", "replay", "0001,G,D,,1,1", "-r", "-"], Some("-")),
+    // Given twice.
+    (&["goose", "show", "-r", "a", "--read", "b"], None),
+];
+
+#[test]
+fn a_request_names_its_file(rt: HostRuntime) {
+    let mut case = 0u32;
+    for (words, wanted) in FILES {
+        assert!(rt; file_named(&rt, words) == wanted, "case {case}");
+        case = case.saturating_add(1);
+    }
+}
+
 // Whether these words ask for what is missing, with this period or none, on a capture.
 fn are_losses(rt: &HostRuntime, words: &[&str], wanted: Option<u32>) -> bool {
     match read_request(rt.alloc(), words) {
-        Ok(Request { task, options }) => match task {
+        Ok(Request { task, options, .. }) => match task {
             Task::Losses { period } => period == wanted && options.is_capture,
             _ => false,
         },

@@ -1,4 +1,4 @@
-//! The program `goose`: reads recorded GOOSE and Sampled Values frames from standard input and writes what its
+//! The program `goose`: reads recorded GOOSE and Sampled Values frames from standard input or a file and writes what its
 //! subcommand asks for to standard output. Exit statuses: 0 done, also after help and the version;
 //! 1 something was found; 2 wrong arguments; 3 an error in the input; 4 a read or write fault; 5 out of memory.
 #![tactic(auto)]
@@ -6,6 +6,7 @@
 mod console;
 mod input;
 mod messages;
+mod opened;
 mod output;
 mod patient;
 
@@ -17,10 +18,11 @@ ghost use Rattle.words_core.specs.RequestLine.{MayRefuseRequest, request_of_word
 use crate::console::Console;
 use crate::input::{BLOCK, Input, Seen};
 use crate::messages::block_fields::block_fault;
-use crate::messages::failure::Failure;
+use crate::messages::failure::{Failure, Unread};
 use crate::messages::passed::passed_frames;
 use crate::messages::unheard::Unheard;
 use crate::messages::unjudged::unjudged_streams;
+use crate::opened::{Begun, Opened};
 use crate::output::Output;
 use crate::patient::Patient;
 use clap::error::ErrorKind as WordsErrorKind;
@@ -47,7 +49,7 @@ fn advice_on(kind: WordsErrorKind) -> Option<&'static str> {
             "The commands are show, check, rewrite, blocks, replay, publish, watch, losses and import; goose --help says what each does. A page of a capture: goose-report FILE, in a checkout tools/report FILE",
         ),
         WordsErrorKind::UnknownArgument => Some(
-            "A list, script or capture is read from standard input: goose COMMAND < FILE; goose COMMAND --help says which arguments a command takes",
+            "A list, script or capture is read by its name: goose COMMAND -r FILE; goose COMMAND --help says which arguments a command takes",
         ),
         WordsErrorKind::ValueValidation => {
             Some("N is a whole number from 2 to 65536: how many samples smpCnt counts in a second")
@@ -112,7 +114,7 @@ fn words_of<'a>(rt: &HostRuntime, texts: &'a [String]) -> Result<Vec<&'a str>, A
 
 // The request that the words make.
 #[inline(never)]
-fn request_of(rt: &HostRuntime, words: &[&str]) -> Result<Request, WordsError>
+fn request_of<'a>(rt: &HostRuntime, words: &'a [&'a str]) -> Result<Request<'a>, WordsError>
     ensures period { IfOk result (λ r. HasPeriod (asked_by r.task)) }
     ensures request { IfOk result (λ r. request_of_words (texts words.now) ≡ Some (Ok (asked_by r.task, r.options))) }
     ensures refused { IfErr result (MayRefuseRequest (texts words.now)) }
@@ -129,6 +131,40 @@ fn intake_of(task: &Task, options: Options) -> Intake {
         _ if options.is_capture => Intake::Packets,
         _ => Intake::ListOrCapture,
     }
+}
+
+// The options of a run that reads a file by its name: it is a capture where its first octets are those of one, frames of other
+// protocols are passed over, and frames are unwrapped, unless they are to be taken as they are.
+fn options_by_name(options: Options, is_capture: bool) -> Options {
+    Options {
+        is_capture: options.is_capture || is_capture,
+        skips_other: !options.is_raw,
+        unwraps: !options.is_raw,
+        is_raw: options.is_raw,
+        writes: options.writes,
+    }
+}
+
+// Says that a file cannot be read, and why, and answers the exit status.
+#[inline(never)]
+fn answer_unread(rt: &HostRuntime, command: &str, file: Option<&str>, error: io::Error) -> u8 {
+    let file = file.unwrap_or("-");
+    let _ = eprintln!(Console::of(rt); "goose {command}: {}", Unread { file, error });
+    status(&Ending::ReadFault)
+}
+
+// Says that an option excludes others, and answers the exit status.
+#[inline(never)]
+fn answer_raw(rt: &HostRuntime, options: Options) -> u8 {
+    let other = if options.skips_other {
+        "--skip-other"
+    } else {
+        "--unwrap"
+    };
+    let _ = eprintln!(Console::of(rt);
+        "error: the argument '--raw' cannot be used with '{other}'\n\nUsage: goose <COMMAND> [OPTIONS]\n\nFor more information, try '--help'."
+    );
+    2
 }
 
 // Says on a terminal what is awaited.
@@ -178,14 +214,18 @@ fn flags_for(rt: &HostRuntime, task: &Task) -> Vec<bool> {
     flags
 }
 
-// The text of the block at a position. The texts stand behind the name of the command, with options between them, or the mark
-// `--`, behind which all are texts.
+// The text of the block at a position. The texts stand behind the name of the command, with options between them, of which `-r`
+// and `--read` have a word behind them, or the mark `--`, behind which all are texts.
 fn block_text<'a>(words: &[&'a str], position: usize) -> Option<&'a str> {
     let mut is_marked = false;
+    let mut is_name = false;
     let mut before = 0usize;
     for word in words.get(2..)? {
-        if !is_marked && word.starts_with("--") {
+        if is_name {
+            is_name = false;
+        } else if !is_marked && word.starts_with("-") && *word != "-" {
             is_marked = *word == "--";
+            is_name = matches!(*word, "-r" | "--read");
         } else if before == position {
             return Some(word);
         } else {
@@ -233,24 +273,56 @@ fn say_unjudged(rt: &HostRuntime, command: &str, unjudged: &Unjudged<Global>) {
     }
 }
 
-// Runs a task from standard input to standard output, and answers the exit status.
-fn run(rt: &HostRuntime, request: Request, words: &[&str]) -> u8
+// Runs a task from standard input, or from the file that is named, to standard output, and answers the exit status.
+fn run(rt: &HostRuntime, request: Request<'_>, words: &[&str]) -> u8
     requires { HasPeriod (asked_by request.task) }
 {
-    let Request { task, options } = request;
+    let Request {
+        task,
+        options,
+        file,
+    } = request;
+    if options.is_raw && (options.skips_other || options.unwraps) {
+        return answer_raw(rt, options);
+    }
+    let command = task.name();
+    if matches!(file, None | Some("-")) {
+        say_awaited(rt, command, intake_of(&task, options));
+    }
+    let opened = match Opened::by_name(rt, file) {
+        Ok(opened) => Patient::new(rt, opened),
+        Err(error) => return answer_unread(rt, command, file, error),
+    };
+    let (opened, options) = match file {
+        None => (Begun::new(opened), options),
+        Some(_) => match Begun::looked_at(opened) {
+            Ok((opened, is_capture)) => (opened, options_by_name(options, is_capture)),
+            Err(error) => return answer_unread(rt, command, file, error),
+        },
+    };
+    run_over(rt, task, options, opened, words)
+}
+
+// Runs a task from a reader to standard output, and answers the exit status.
+fn run_over(
+    rt: &HostRuntime,
+    task: Task,
+    options: Options,
+    opened: Begun<Patient<'_, HostRuntime, Opened>>,
+    words: &[&str],
+) -> u8
+    requires { HasPeriod (asked_by task) }
+{
     let Ok(output) = Output::new(rt.alloc(), Patient::new(rt, io::writer(rt))) else {
         return status(&Ending::Memory);
     };
     let seen = Seen::new();
-    // The reader owns a large buffer; it stays here, and is not moved with each result.
-    let mut standard = rt.reader();
-    let input = Input::new(Patient::new(rt, &mut standard), &output, &seen);
+    let input = Input::new(opened, &output, &seen);
     let Ok(input) = BufReader::with_capacity(rt.alloc(), BLOCK, input) else {
         return status(&Ending::Memory);
     };
     let command = task.name();
     let intake = intake_of(&task, options);
-    say_awaited(rt, command, intake);
     let mut heard = flags_for(rt, &task);
     let mut unjudged = Unjudged::new(rt.alloc());
     let mut writer = ToWrite::new(&output);

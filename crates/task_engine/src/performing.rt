@@ -147,6 +147,7 @@ const NO_OPTION: Options = Options {
     is_capture: false,
     skips_other: false,
     unwraps: false,
+    is_raw: false,
     writes: Writing::Lines,
 };
 

@@ -17,12 +17,12 @@ use Rattle.block_core.specs.declared.block.Block.{Block}
 use Rattle.words_core.specs.CommandLine.{Asked, Meaning, Subcommand, blocks_in, check, first_bad_block, import, is_plain, list_blocks, losing, losses, losses_shape, name_of, number_said, plain, publish, replay, replay_of, replay_shape, replaying, rewrite, show, subcommands, takes_options, task_asked, watch, watch_shape, watching}
 use Rattle.words_core.proofs.KeptRows.{first_none, leaf, then_none}
 use Rattle.words_core.specs.declared.option_words.Options.{Options}
-use Rattle.words_core.specs.RequestLine.{AsksByNameWith, AsksWith, Switch, Wish, is_on, is_option, is_set, offered, options_in, request_asked, request_line, request_of_words, switch_name, with_these}
+use Rattle.words_core.specs.RequestLine.{AsksByNameWith, AsksWith, Switch, Wish, is_on, is_option, is_reading, is_set, offered, options_in, request_asked, request_line, request_of_words, switch_name, with_these}
 use Rattle.words_core.proofs.LoneFlags.{AreFlags, help_flag, lone_mark, version_flag}
 use Rattle.words_core.proofs.OptionRows.{once_if, times_of, words_of}
 use Rattle.words_core.proofs.OptionWalks.{dashes}
 use Rattle.words_core.proofs.PlainWords.{IsEnd, given, none_given_at, none_yet, plain_leaf, plain_set}
-use Rattle.words_core.proofs.Switches.{an_option, is_on_in}
+use Rattle.words_core.proofs.Switches.{an_option, both_false, is_on_in}
 
 -- the built command, its words before a subcommand, and the names of its subcommands
 abbrev pub line : App
@@ -170,7 +170,7 @@ record Behind (s : Shape) (words : List Text) : Type 0 where
   none : takes_by_name s.name ≡ false → options ≡ []
 
 abbrev HasOptions : Shape → Type 0
-HasOptions s = (t : Asked) → is_plain t ≡ true → name_of t ≡ s.name → (words : List Text) → walk_fault s [] (walk_from nothing_held) words ≡ [] → Behind s words
+HasOptions s = (t : Asked) → is_plain t ≡ true → name_of t ≡ s.name → (words : List Text) → list_any is_reading words ≡ false → walk_fault s [] (walk_from nothing_held) words ≡ [] → Behind s words
 
 abbrev EachHasOptions : List Shape → Type 0
 EachHasOptions [] = Unit {0}
@@ -185,13 +185,13 @@ unset t mark end o = elim end [
 ]
 
 plain_has_none : (u : Asked) → HasOptions (plain_leaf false u)
-plain_has_none u t plainly name words e =
-    let end = none_given_at u words e in
+plain_has_none u t plainly name words r e =
+    let end = none_given_at u words r e in
     record { options = []; mark = words; are = refl; end = end; sets = unset u words end; none = λ f. refl }
 
 plain_has : (u : Asked) → takes_by_name (name_of u) ≡ true → HasOptions (plain_leaf true u)
-plain_has u takes t plainly name words e =
-    let g = given u words (λ o. 0) [] none_yet e in
+plain_has u takes t plainly name words r e =
+    let g = given u words (λ o. 0) [] none_yet r e in
     record {
       options = g.options;
       mark = g.mark;
@@ -217,7 +217,7 @@ other_name (watch period id) name e other n = true≢false (sym e)
 other_name (losses period) name e other n = true≢false (sym e)
 
 other_has_none : (s : Shape) → is_plain_name s.name ≡ false → HasOptions s
-other_has_none s other t e n words f = absurd (other_name t s.name e other n)
+other_has_none s other t e n words r f = absurd (other_name t s.name e other n)
 
 all_have : EachHasOptions line.subs
 all_have = (
@@ -264,9 +264,9 @@ record Below (t : Asked) (words : List Text) (rows : List Row) : Type 0 where
   sets : (o : Switch) → times_of o options ≡ (if is_set (switch_name o) rows then 1 else 0)
   none : takes_by_name (name_of t) ≡ false → options ≡ []
 
-below : (name : Text) (words : List Text) (r : Text × List Row) (t : Asked) → is_plain t ≡ true → name_of t ≡ r.0
+below : (name : Text) (words : List Text) (r : Text × List Row) (t : Asked) → is_plain t ≡ true → name_of t ≡ r.0 → list_any is_reading words ≡ false
     → entered line (Some (name, words)) ≡ Some r → entered_fault line (Some (name, words)) ≡ [] → Below t words r.1
-below name words r t plainly named e f = go (find (λ s. answers_to name (label_of s)) line.subs) refl
+below name words r t plainly named reading e f = go (find (λ s. answers_to name (label_of s)) line.subs) refl
   where
     go : (o : Option Shape) → find (λ s. answers_to name (label_of s)) line.subs ≡ o → Below t words r.1
     go None g = absurd (no_pair r (rw g at e))
@@ -275,7 +275,7 @@ below name words r t plainly named e f = go (find (λ s. answers_to name (label_
         let same : Some (rows_at s words) ≡ Some r = rw g at e in
         let is : s.name ≡ r.0 = ap (λ (o : Option (Text × List Row)). (unwrap_or o r).0) same in
         let rows_are : rows_after s.rules [] words ≡ r.1 = ap (λ (o : Option (Text × List Row)). (unwrap_or o r).1) same in
-        let has = found_has line.subs (all_have) (λ s. answers_to name (label_of s)) s g t plainly (named ∙ sym is) words (first_none (walk_fault s [] (walk_from nothing_held) words) _ level) in
+        let has = found_has line.subs (all_have) (λ s. answers_to name (label_of s)) s g t plainly (named ∙ sym is) words reading (first_none (walk_fault s [] (walk_from nothing_held) words) _ level) in
         record {
           options = has.options;
           mark = has.mark;
@@ -311,9 +311,9 @@ gives_by : (os : List Switch) (rows : List Row) (options : Options) → options_
     → (o : Switch) → times_of o os ≡ (if is_on options o then 1 else 0)
 gives_by os rows options e sets o = sets o ∙ ap once_if (is_on_in rows options e o)
 
-subcommand_asks : (p word name : Text) (words : List Text) (t : Asked) (options : Options) → is_plain t ≡ true → subcommand_met names idle word ≡ Some name → fault_of request_line (p ∷ word ∷ words) ≡ []
+subcommand_asks : (p word name : Text) (words : List Text) (t : Asked) (options : Options) → is_plain t ≡ true → list_any is_reading words ≡ false → subcommand_met names idle word ≡ Some name → fault_of request_line (p ∷ word ∷ words) ≡ []
     → request_of_words (p ∷ word ∷ words) ≡ Some (Ok (t, options)) → NamesPlainly (p ∷ word ∷ words) t options
-subcommand_asks p word name words t options plainly m f e = go (entered line (Some (name, words))) refl
+subcommand_asks p word name words t options plainly reading m f e = go (entered line (Some (name, words))) refl
   where
     met : option_and_then request_asked (entered line (Some (name, words))) ≡ Some (Ok (t, options))
     met = subst (λ (o : Option (Text × List Text)). option_and_then request_asked (entered line o) ≡ Some (Ok (t, options))) (stops word name words m) e
@@ -327,7 +327,7 @@ subcommand_asks p word name words t options plainly m f e = go (entered line (So
         let both = wish_parts (task_asked r) (options_in r.1) t options (rw n at met) in
         let named : name_of t ≡ r.0 = for_name r t both.0 in
         let is : word ≡ name_of t = sym (named ∙ (entered_name name words r n ∙ met_name word name names (no_aliases) m)) in
-        let b = below name words r t plainly named n fault in
+        let b = below name words r t plainly named reading n fault in
         record {
           called = p;
           given = b.options;
@@ -350,13 +350,13 @@ no_task p word words t options m f e =
     (subst (λ (rest : List Text). request_of_words (p ∷ dashes ∷ rest) ≡ Some (Ok (t, options))) lone.1 (subst (λ (w : Text). request_of_words (p ∷ w ∷ words) ≡ Some (Ok (t, options))) lone.0 e))
 
 -- words without a fault, and of a task without words of its own, name it with its options
-pub words_name : (words : List Text) (t : Asked) (options : Options) → fault_of request_line words ≡ [] → request_of_words words ≡ Some (Ok (t, options)) → is_plain t ≡ true → NamesPlainly words t options
-words_name [] t options f e plainly = cc
-words_name (p ∷ []) t options f e plainly = cc
-words_name (p ∷ word ∷ words) t options f e plainly = go (subcommand_met names idle word) refl
+pub words_name : (words : List Text) (t : Asked) (options : Options) → fault_of request_line words ≡ [] → request_of_words words ≡ Some (Ok (t, options)) → is_plain t ≡ true → list_any is_reading words ≡ false → NamesPlainly words t options
+words_name [] t options f e plainly reading = cc
+words_name (p ∷ []) t options f e plainly reading = cc
+words_name (p ∷ word ∷ words) t options f e plainly reading = go (subcommand_met names idle word) refl
   where
     go : (o : Option Text) → subcommand_met names idle word ≡ o → NamesPlainly (p ∷ word ∷ words) t options
-    go (Some name) m = subcommand_asks p word name words t options plainly m f e
+    go (Some name) m = subcommand_asks p word name words t options plainly (both_false _ _ (both_false _ _ reading).1).1 m f e
     go None m = absurd (no_task p word words t options m f e)
 
 -- ---- such words ask as the definitions say
@@ -383,9 +383,9 @@ takes_none (replay blocks) e f = absurd (true≢false f)
 takes_none (watch period id) e f = absurd (true≢false f)
 takes_none (losses period) e f = absurd (true≢false f)
 
-pub words_ask_with : (words : List Text) (t : Asked) (options : Options) → fault_of request_line words ≡ [] → request_of_words words ≡ Some (Ok (t, options)) → is_plain t ≡ true → AsksWith words t options
-words_ask_with words t options f e plainly =
-    let n = words_name words t options f e plainly in
+pub words_ask_with : (words : List Text) (t : Asked) (options : Options) → fault_of request_line words ≡ [] → request_of_words words ≡ Some (Ok (t, options)) → is_plain t ≡ true → list_any is_reading words ≡ false → AsksWith words t options
+words_ask_with words t options f e plainly reading =
+    let n = words_name words t options f e plainly reading in
     asks_with words t options plainly (record {
       called = n.called;
       given = words_of n.given;

@@ -37,6 +37,22 @@ abbrev pub names_one : List Rule → Option (Text × Option Text) → Bool
 names_one c None = false
 names_one c (Some p) = is_long_of c p.0
 
+-- the first of a word's short names is that of one of these
+abbrev pub short_is_of : List Rule → ℕ → Bool
+short_is_of c x = list_any (λ a. not (is_some a.index) && has_short a x) c
+
+abbrev pub begins_one : List Rule → Option Text → Bool
+begins_one c None = false
+begins_one c (Some bundle) = option_map_or (short_is_of c) (slice_get (chars bundle) 0) false
+
+begins_no_one : (o : Option Text) → begins_one [] o ≡ false
+begins_no_one None = refl
+begins_no_one (Some bundle) = go (slice_get (chars bundle) 0)
+  where
+    go : (x : Option ℕ) → option_map_or (short_is_of []) x false ≡ false
+    go None = refl
+    go (Some x) = refl
+
 names_no_one : (o : Option (Text × Option Text)) → names_one [] o ≡ false
 names_no_one None = refl
 names_no_one (Some p) = refl
@@ -46,7 +62,7 @@ abbrev pub AreFlags : List Rule → List Rule → Type 1
 AreFlags c others = (P : Option Rule → Type 0) → P None → P (Some help_flag) → P (Some version_flag) → (test : Rule → Bool) → list_any test others ≡ false → P (find test c)
 
 -- a command of such rules, between two words: a word that names none of the others fails
-module _ (s : Shape) (names : Names) (others : List Rule) (flags : AreFlags s.rules others) (no_short : (x : ℕ) → list_any (λ a. not (is_some a.index) && has_short a x) others ≡ false) (none : arg_by_index s.rules 1 ≡ None)
+module _ (s : Shape) (names : Names) (others : List Rule) (flags : AreFlags s.rules others) (none : arg_by_index s.rules 1 ≡ None)
     (rows : List Row) where
   abbrev h : Held
   h = held rows None
@@ -55,14 +71,14 @@ module _ (s : Shape) (names : Names) (others : List Rule) (flags : AreFlags s.ru
   long_fails name None other = flags (λ o. long_fault s.rules s.args_override_self o None h ≡ [] → ⊥) (λ e. cc) (λ e. cc) (λ e. cc) (λ a. not (is_some a.index) && has_long a name) other
   long_fails name (Some v) other = flags (λ o. long_fault s.rules s.args_override_self o (Some v) h ≡ [] → ⊥) (λ e. cc) (λ e. cc) (λ e. cc) (λ a. not (is_some a.index) && has_long a name) other
 
-  short_fails : (x : ℕ) (rest : Text) (next : Held → Kinds) → short_fault s.rules s.args_override_self (arg_by_short s.rules x) rest h next ≡ [] → ⊥
-  short_fails x rest next = flags (λ o. short_fault s.rules s.args_override_self o rest h next ≡ [] → ⊥) (λ e. cc) (λ e. cc) (λ e. cc) (λ a. not (is_some a.index) && has_short a x) (no_short x)
+  short_fails : (x : ℕ) (rest : Text) (next : Held → Kinds) → short_is_of others x ≡ false → short_fault s.rules s.args_override_self (arg_by_short s.rules x) rest h next ≡ [] → ⊥
+  short_fails x rest next other = flags (λ o. short_fault s.rules s.args_override_self o rest h next ≡ [] → ⊥) (λ e. cc) (λ e. cc) (λ e. cc) (λ a. not (is_some a.index) && has_short a x) other
 
-  bundle_fails : (n : ℕ) (bundle : Text) (x : ℕ) → slice_get (chars bundle) 0 ≡ Some x → flags_fault s.rules s.args_override_self (suc n) bundle 0 h ≡ [] → ⊥
+  bundle_fails : (n : ℕ) (bundle : Text) (x : ℕ) → slice_get (chars bundle) 0 ≡ Some x → begins_one others (Some bundle) ≡ false → flags_fault s.rules s.args_override_self (suc n) bundle 0 h ≡ [] → ⊥
   unfolding flags_fault
-  bundle_fails n bundle x c e =
+  bundle_fails n bundle x c first e =
       let rest = drop (length (encode_utf8 x)) bundle in
-      short_fails x rest (flags_fault s.rules s.args_override_self n rest 0) (rw c at e)
+      short_fails x rest (flags_fault s.rules s.args_override_self n rest 0) (rw c at first) (rw c at e)
 
   -- what stands for a positional is one word too many: there is none
   abbrev Passes : Held × Step → Type 0
@@ -75,33 +91,33 @@ module _ (s : Shape) (names : Names) (others : List Rule) (flags : AreFlags s.ru
   unfolding bundle_met
   bundle_passes n bundle word c e = stray_fails h (rw c at e)
 
-  short_or_fails : (word : Text) (o : Option Text) → option_map_or (λ bundle. bundle_fault s.rules s.args_override_self bundle h) o [] ≡ [] → Passes (short_or_plain s.rules idle word o h) → ⊥
+  short_or_fails : (word : Text) (o : Option Text) → begins_one others o ≡ false → option_map_or (λ bundle. bundle_fault s.rules s.args_override_self bundle h) o [] ≡ [] → Passes (short_or_plain s.rules idle word o h) → ⊥
   unfolding bundle_met
-  short_or_fails word None f e = stray_fails h e
-  short_or_fails word (Some []) f e = stray_fails h e
-  short_or_fails word (Some (x ∷ xs)) f e = go (slice_get (chars (x ∷ xs)) 0) refl
+  short_or_fails word None first f e = stray_fails h e
+  short_or_fails word (Some []) first f e = stray_fails h e
+  short_or_fails word (Some (x ∷ xs)) first f e = go (slice_get (chars (x ∷ xs)) 0) refl
     where
       go : (o : Option ℕ) → slice_get (chars (x ∷ xs)) 0 ≡ o → ⊥
       go None c = bundle_passes (length xs) (x ∷ xs) word c e
-      go (Some k) c = bundle_fails (length xs) (x ∷ xs) k c f
+      go (Some k) c = bundle_fails (length xs) (x ∷ xs) k c first f
 
-  long_or_fails : (word : Text) (o : Option (Text × Option Text)) → names_one others o ≡ false → flag_word_fault s.rules s.args_override_self o word h ≡ [] → Passes (long_or_other s.rules idle word o h) → ⊥
-  long_or_fails word (Some p) other f e = long_fails p.0 p.1 other f
-  long_or_fails word None other f e = short_or_fails word (short_of word) f e
+  long_or_fails : (word : Text) (o : Option (Text × Option Text)) → names_one others o ≡ false → begins_one others (short_of word) ≡ false → flag_word_fault s.rules s.args_override_self o word h ≡ [] → Passes (long_or_other s.rules idle word o h) → ⊥
+  long_or_fails word (Some p) other first f e = long_fails p.0 p.1 other f
+  long_or_fails word None other first f e = short_or_fails word (short_of word) first f e
 
-  other_fails : (word : Text) (o : Option Text) (b : Bool) → o ≡ None → bytes_eq word dashes ≡ b → b ≡ false → names_one others (long_of word) ≡ false → other_fault s o word h ≡ []
+  other_fails : (word : Text) (o : Option Text) (b : Bool) → o ≡ None → bytes_eq word dashes ≡ b → b ≡ false → names_one others (long_of word) ≡ false → begins_one others (short_of word) ≡ false → other_fault s o word h ≡ []
       → Passes (subcommand_or_other s.rules o idle 1 word h) → ⊥
-  other_fails word (Some n) b m d u other f e = cc
-  other_fails word None true m d u other f e = cc
-  other_fails word None false m d u other f e = long_or_fails word (long_of word) other (rw d at f) (rw d at e)
+  other_fails word (Some n) b m d u other first f e = cc
+  other_fails word None true m d u other first f e = cc
+  other_fails word None false m d u other first f e = long_or_fails word (long_of word) other first (rw d at f) (rw d at e)
 
-  pub turn_fails : (word : Text) → subcommand_met names idle word ≡ None → bytes_eq word dashes ≡ false → names_one others (long_of word) ≡ false → turn_fault s names (between rows None) word ≡ [] → ⊥
-  turn_fails word m d other e =
+  pub turn_fails : (word : Text) → subcommand_met names idle word ≡ None → bytes_eq word dashes ≡ false → names_one others (long_of word) ≡ false → begins_one others (short_of word) ≡ false → turn_fault s names (between rows None) word ≡ [] → ⊥
+  turn_fails word m d other first e =
       let named = subcommand_met names idle word in
       let met = subcommand_or_other s.rules named idle 1 word h in
       let word_none = first_none (other_fault s named word h) (step_fault s 1 met.0 met.1) e in
       let step_none = then_none (other_fault s named word h) (step_fault s 1 met.0 met.1) e in
-      other_fails word named (bytes_eq word dashes) m refl d other word_none step_none
+      other_fails word named (bytes_eq word dashes) m refl d other first word_none step_none
 
   -- behind the mark each word is one too many
   trailing_fails : (word : Text) → turn_fault s names (record (between rows None) { is_trailing = true }) word ≡ [] → ⊥
@@ -120,5 +136,5 @@ lone_mark s names flags none word words m e = go (bytes_eq word dashes) refl (tu
   where
     go : (b : Bool) → bytes_eq word dashes ≡ b → (turn_fault s names (walk_from nothing_held) word ≡ []) × (walk_fault s names (walked s.rules names (walk_from nothing_held) word) words ≡ [])
         → (word ≡ dashes) × (words ≡ [])
-    go false d h = absurd (turn_fails s names [] flags (λ x. refl) none [] word m d (names_no_one (long_of word)) h.0)
-    go true d h = ((bytes_eq-Decides word dashes).0 d, nothing_behind s names [] flags (λ x. refl) none [] words (rw (m, d) at h.1))
+    go false d h = absurd (turn_fails s names [] flags none [] word m d (names_no_one (long_of word)) (begins_no_one (short_of word)) h.0)
+    go true d h = ((bytes_eq-Decides word dashes).0 d, nothing_behind s names [] flags none [] words (rw (m, d) at h.1))

@@ -14,8 +14,8 @@ use Rattle.clap.proofs.ValueTestLemmas.{accepts-Accepts}
 use Rattle.words_core.specs.CommandLine.{HasPeriod, losses, losses_shape, number_said, stream_period_rule}
 use Rattle.words_core.specs.RequestLine.{offered, switches}
 use Rattle.words_core.proofs.KeptRows.{EachKeeps, FirstPasses, Kept, end_keeps, found_keeps, leaf, no_defaults, single_keeps}
-use Rattle.words_core.proofs.OptionRows.{switch_flag}
-use Rattle.words_core.proofs.WatchRows.{help_option, not_period, says_period, switch_defaults_keep, switches_keep}
+use Rattle.words_core.proofs.OptionRows.{read_flag, switch_flag}
+use Rattle.words_core.proofs.WatchRows.{help_option, not_period, not_read, says_period, switch_defaults_keep, switches_keep}
 
 -- the subcommand `losses` as it is built, and its option
 abbrev pub losing : Shape
@@ -44,11 +44,14 @@ may_pass a (r ∷ rows) h = go (bytes_eq r.id a.id) refl (may_pass a rows h.1)
     go false t later = later
 
 stream_kept : EachKeeps false (Kept stream_period) losing.rules
-stream_kept = (single_keeps false stream_period stream_period (refl, refl) (λ e. refl), switches_keep stream_period not_period switches)
+stream_kept = (
+  single_keeps false stream_period stream_period (refl, refl) (λ e. refl),
+  (single_keeps false stream_period read_flag (refl, refl) (λ e. absurd (not_read (codes "period") refl e)), switches_keep stream_period not_period switches),
+)
 
 defaults_keep : (given : List Row) → Kept stream_period given → Kept stream_period (fold with_default given losing.rules)
 defaults_keep given h =
-    let own = no_defaults (stream_period ∷ []) given (refl, tt) in
+    let own = no_defaults (stream_period ∷ read_flag ∷ []) given (refl, (refl, tt)) in
     subst (λ (l : List Row). Kept stream_period (fold with_default l (map switch_flag switches ++ help_option ∷ []))) (sym own) (switch_defaults_keep stream_period not_period switches given h)
 
 -- words of `losses` without a fault

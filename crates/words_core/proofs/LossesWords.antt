@@ -16,7 +16,7 @@ use Rattle.words_core.proofs.KeptRows.{no_defaults}
 use Rattle.words_core.proofs.LoneFlags.{help_flag}
 use Rattle.words_core.proofs.LossesRows.{losing, stream_period}
 use Rattle.words_core.proofs.NamedWords.{IsTaken, at_most, taken_behind, wished}
-use Rattle.words_core.proofs.OptionRows.{Counted, all_past, counted_all, counted_past, default_other, default_set, has_at, once_if, row_at, set_other, set_own, set_where_given, switch_flag, use_all, use_switch, with_times, words_of}
+use Rattle.words_core.proofs.OptionRows.{Counted, all_past, counted_all, counted_past, default_other, default_set, has_at, once_if, read_flag, row_at, set_other, set_own, set_where_given, switch_flag, use_all, use_switch, with_times, words_of}
 use Rattle.words_core.proofs.OptionWalks.{Ends, Leads, Pending, TakesOptions, between, chain, ends, ends_by_mark, level_ends, options_lead, rows_end, settled_to, settles, state}
 use Rattle.words_core.proofs.PlainWords.{IsEnd, none_yet, options_leave}
 use Rattle.words_core.proofs.WatchWords.{Argument, Walks, digits_pass, digits_say, leads}
@@ -120,7 +120,7 @@ may_say (Some period) words p = says_some period words p
 
 losses_leave : {X : Type 0} (of : List Row → X) → ((o : Switch) (rows : List Row) → of (with_default rows (switch_flag o)) ≡ of rows) → (rows : List Row) → of (fold with_default rows losing.rules) ≡ of rows
 losses_leave of past rows =
-    ap (λ (l : List Row). of (fold with_default l (map switch_flag switches ++ help_flag ∷ []))) (no_defaults (stream_period ∷ []) rows (refl, tt)) ∙ options_leave of past switches rows
+    ap (λ (l : List Row). of (fold with_default l (map switch_flag switches ++ help_flag ∷ []))) (no_defaults (stream_period ∷ read_flag ∷ []) rows (refl, (refl, tt))) ∙ options_leave of past switches rows
 
 pub losses_default : (rows : List Row) → row_at (codes "period") (fold with_default rows losing.rules) ≡ row_at (codes "period") rows
 losses_default rows = losses_leave (row_at (codes "period")) (λ o. default_other o (codes "period") (stream_argument.before_option o)) rows

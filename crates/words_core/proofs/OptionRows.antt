@@ -11,7 +11,7 @@ use Rattle.clap.specs.Walk.{has_row, reading_by, row_text, stronger, used, with_
 use Rattle.clap.specs.declared.builder.value_parser.Reading.{Reading}
 use Rattle.clap.specs.declared.parser.matches.ValueSource.{ValueSource}
 use Rattle.clap.specs.declared.parser.matches.ValueSource.TheVariants.{CommandLine, DefaultValue}
-use Rattle.words_core.specs.RequestLine.{Switch, capture, is_set, json, option_named, skip_other, switch_name, switch_word, time, times, unwrap}
+use Rattle.words_core.specs.RequestLine.{Switch, capture, is_set, json, option_named, raw, read_rule, skip_other, switch_name, switch_word, time, times, unwrap}
 
 abbrev pub once_if : Bool → ℕ
 once_if b = if b then 1 else 0
@@ -121,6 +121,10 @@ has_at id (r ∷ rows) = go (bytes_eq r.id id) refl (has_at id rows)
 abbrev pub switch_flag : Switch → Rule
 switch_flag o = with_index 1 (filled (option_named (switch_name o)))
 
+-- and that of the name of a file
+abbrev pub read_flag : Rule
+read_flag = with_index 1 (filled read_rule)
+
 abbrev pub use_switch : Switch → List Row → List Row
 use_switch o rows = used (switch_flag o) [] rows
 
@@ -161,6 +165,7 @@ one_name : (s o : Switch) → bytes_eq (switch_name s) (switch_name o) ≡ true 
 one_name capture capture e = refl
 one_name skip_other skip_other e = refl
 one_name unwrap unwrap e = refl
+one_name raw raw e = refl
 one_name time time e = refl
 one_name json json e = refl
 one_name _ _ e = absurd (true≢false (sym e))

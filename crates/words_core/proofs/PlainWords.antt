@@ -1,21 +1,22 @@
 -- What stands behind the name of a subcommand without words of its own: options, none of them twice, and then nothing or the mark.
 use Rattle.std.proofs.Common.{◌≡◌, ◌&&◌, ◌||◌, ◌∙◌, ◌==◌, ◌⊎◌, ℕ, Bool, true, false, true≢false, not, List, [], ◌∷◌, ◌++◌, Option, Some, None, is_some, inl, inr, refl, sym, ap, subst, arith, cond, length, map, take_all, eqb-true}
-use Rattle.std.specs.Prelude.{fold, if◌then◌else◌}
+use Rattle.std.specs.Option.{option_map_or}
+use Rattle.std.specs.Prelude.{codes, fold, slice_get, if◌then◌else◌}
 use Rattle.std.specs.List.{before_first, list_any, position_or_len}
-use Rattle.std.specs.Str.{bytes_eq}
+use Rattle.std.specs.Str.{bytes_eq, chars}
 use Rattle.std.proofs.lemmas.Slice.Eq.{bytes_eq-Decides}
 use Rattle.std.proofs.lemmas.List.{append-nil}
-use Rattle.clap.specs.Lexer.{has_byte, long_of, long_of_rest, name_and_value}
+use Rattle.clap.specs.Lexer.{has_byte, long_of, long_of_rest, name_and_value, short_of}
 use Rattle.clap.specs.Words.{Row, Rule, Shape, Text}
 use Rattle.clap.specs.Faults.{turn_fault, walk_fault}
-use Rattle.clap.specs.Walk.{Walk, arg_by_index, has_row, has_short, idle, rows_after, walked, with_default}
+use Rattle.clap.specs.Walk.{Walk, arg_by_index, has_row, idle, rows_after, walked, with_default}
 use Rattle.clap.specs.declared.error.kind.ErrorKind.TheVariants as kind
 use Rattle.words_core.specs.CommandLine.{Asked, plain}
-use Rattle.words_core.specs.RequestLine.{Switch, capture, is_set, offered, switch_name, switch_word, switches}
+use Rattle.words_core.specs.RequestLine.{Switch, begins_reading, capture, is_reading, is_set, offered, switch_name, switch_word, switches}
 use Rattle.words_core.proofs.KeptRows.{leaf, no_default}
-use Rattle.words_core.proofs.OptionRows.{AtMostOnce, Counted, also_new, counted_all, counted_more, default_set, not_given, once_if, one_more, set_where_given, switch_flag, times_of, use_all, use_switch, with_times, words_of}
+use Rattle.words_core.proofs.OptionRows.{AtMostOnce, Counted, also_new, counted_all, counted_more, default_set, not_given, once_if, one_more, read_flag, set_where_given, switch_flag, times_of, use_all, use_switch, with_times, words_of}
 use Rattle.words_core.proofs.OptionWalks.{Ends, between, dashes, ends, ends_by_mark, options_lead, plain_takes, rows_end}
-use Rattle.words_core.proofs.LoneFlags.{AreFlags, help_flag, is_long_of, names_one, nothing_behind, turn_fails, turn_none}
+use Rattle.words_core.proofs.LoneFlags.{AreFlags, begins_one, help_flag, is_long_of, names_one, nothing_behind, short_is_of, turn_fails, turn_none}
 use Rattle.words_core.proofs.Switches.{both_false, holds_of}
 
 -- ---- the word of an option by its name
@@ -65,10 +66,10 @@ long_word (x ∷ y ∷ rest) name e = go (x == 45) (y == 45) refl refl
 
 -- ---- the rules of such a subcommand
 
--- the options as they are built, where they are offered
+-- the name of a file and the options as they are built, where they are offered
 abbrev pub flag_rules : Bool → List Rule
-flag_rules true = map switch_flag switches
-flag_rules false = []
+flag_rules true = read_flag ∷ map switch_flag switches
+flag_rules false = read_flag ∷ []
 
 abbrev pub plain_leaf : Bool → Asked → Shape
 plain_leaf takes t = leaf (offered takes (plain t).shape)
@@ -83,12 +84,29 @@ help_behind (a ∷ others) P none help version test other =
     let parts = both_false (test a) (list_any test others) other in rw parts.0 (help_behind others P none help version test parts.1)
 
 leaf_flags : (takes : Bool) (t : Asked) → AreFlags (plain_leaf takes t).rules (flag_rules takes)
-leaf_flags false t = help_behind []
-leaf_flags true t = help_behind (map switch_flag switches)
+leaf_flags false t = help_behind (read_flag ∷ [])
+leaf_flags true t = help_behind (read_flag ∷ map switch_flag switches)
 
-leaf_no_short : (takes : Bool) (x : ℕ) → list_any (λ a. not (is_some a.index) && has_short a x) (flag_rules takes) ≡ false
-leaf_no_short true x = refl
-leaf_no_short false x = refl
+-- a word that names no file begins with none of their short names, and its long name is none but that of an option
+short_free : (takes : Bool) (x : ℕ) → (114 == x) ≡ false → short_is_of (flag_rules takes) x ≡ false
+short_free true x e = rw e refl
+short_free false x e = rw e refl
+
+no_short : (takes : Bool) (o : Option Text) → option_map_or begins_reading o false ≡ false → begins_one (flag_rules takes) o ≡ false
+no_short takes None e = refl
+no_short takes (Some bundle) e = go (slice_get (chars bundle) 0) e
+  where
+    go : (x : Option ℕ) → option_map_or (λ c. 114 == c) x false ≡ false → option_map_or (short_is_of (flag_rules takes)) x false ≡ false
+    go None f = refl
+    go (Some x) f = short_free takes x f
+
+long_is_option : (o : Option (Text × Option Text)) → option_map_or (λ (p : Text × Option Text). bytes_eq (codes "read") p.0) o false ≡ false → names_one (flag_rules true) o ≡ names_one (map switch_flag switches) o
+long_is_option None e = refl
+long_is_option (Some p) e = rw e refl
+
+long_is_none : (o : Option (Text × Option Text)) → option_map_or (λ (p : Text × Option Text). bytes_eq (codes "read") p.0) o false ≡ false → names_one (flag_rules false) o ≡ false
+long_is_none None e = refl
+long_is_none (Some p) e = rw e refl
 
 -- ---- words without a fault
 
@@ -151,27 +169,26 @@ mark_last : (takes : Bool) (t : Asked) (rows : List Row) (word : Text) (words : 
 unfolding walked
 mark_last takes t rows word words d e =
     let behind = (turn_none (plain_leaf takes t) [] (between rows None) word words e).1 in
-    let last = nothing_behind (plain_leaf takes t) [] (flag_rules takes) (leaf_flags takes t) (leaf_no_short takes) (leaf_no_index takes t) rows words (rw d at behind) in
+    let last = nothing_behind (plain_leaf takes t) [] (flag_rules takes) (leaf_flags takes t) (leaf_no_index takes t) rows words (rw d at behind) in
     rw ((bytes_eq-Decides word dashes).0 d, last) refl
 
-other_fails : (takes : Bool) (t : Asked) (rows : List Row) (word : Text) (words : List Text) → bytes_eq word dashes ≡ false → names_one (flag_rules takes) (long_of word) ≡ false
+other_fails : (takes : Bool) (t : Asked) (rows : List Row) (word : Text) (words : List Text) → bytes_eq word dashes ≡ false → names_one (flag_rules takes) (long_of word) ≡ false → is_reading word ≡ false
     → NoFault takes t rows (word ∷ words) → ⊥
-other_fails takes t rows word words d other e =
-    turn_fails (plain_leaf takes t) [] (flag_rules takes) (leaf_flags takes t) (leaf_no_short takes) (leaf_no_index takes t) rows word refl d other
+other_fails takes t rows word words d other reading e =
+    turn_fails (plain_leaf takes t) [] (flag_rules takes) (leaf_flags takes t) (leaf_no_index takes t) rows word refl d other (no_short takes (short_of word) (both_false _ _ reading).1)
     (turn_none (plain_leaf takes t) [] (between rows None) word words e).0
 
 -- where no options are offered
-pub none_given_at : (t : Asked) (words : List Text) → NoFault false t [] words → IsEnd words
-none_given_at t [] e = inl refl
-none_given_at t (word ∷ words) e = at (bytes_eq word dashes) refl
+pub none_given_at : (t : Asked) (words : List Text) → list_any is_reading words ≡ false → NoFault false t [] words → IsEnd words
+none_given_at t [] r e = inl refl
+none_given_at t (word ∷ words) r e = at (bytes_eq word dashes) refl
   where
-    no_name : (o : Option (Text × Option Text)) → names_one [] o ≡ false
-    no_name None = refl
-    no_name (Some p) = refl
+    reading : is_reading word ≡ false
+    reading = (both_false (is_reading word) (list_any is_reading words) r).0
 
     at : (b : Bool) → bytes_eq word dashes ≡ b → IsEnd (word ∷ words)
     at true d = inr (mark_last false t [] word words d e)
-    at false d = absurd (other_fails false t [] word words d (no_name (long_of word)) e)
+    at false d = absurd (other_fails false t [] word words d (long_is_none (long_of word) (both_false _ _ reading).0) reading e)
 
 -- a word that names an option is its word
 option_at : (t : Asked) (rows : List Row) (word : Text) → bytes_eq word dashes ≡ false → names_one (map switch_flag switches) (long_of word) ≡ true
@@ -186,13 +203,13 @@ option_at t rows word d named e = go (long_of word) refl named
         absurd (no_value t o.0 value word rows (l ∙ ap (λ (x : Text). Some (x, Some value)) o.1) d e)
 
 abbrev Later : Asked → List Text → Type 0
-Later t words = (n : Switch → ℕ) (rows : List Row) → Counted rows n → NoFault true t rows words → Given n words
+Later t words = (n : Switch → ℕ) (rows : List Row) → Counted rows n → list_any is_reading words ≡ false → NoFault true t rows words → Given n words
 
-one_option : (t : Asked) (n : Switch → ℕ) (rows : List Row) (o : Switch) (words : List Text) → Later t words → Counted rows n → NoFault true t rows (switch_word o ∷ words) → Given n (switch_word o ∷ words)
-one_option t n rows o words later c e =
+one_option : (t : Asked) (n : Switch → ℕ) (rows : List Row) (o : Switch) (words : List Text) → Later t words → Counted rows n → list_any is_reading words ≡ false → NoFault true t rows (switch_word o ∷ words) → Given n (switch_word o ∷ words)
+one_option t n rows o words later c r e =
     let turn = turn_none (plain_leaf true t) [] (between rows None) (switch_word o) words e in
     let zero = not_given rows n o c (turn_at t o rows turn.0) in
-    let rest = later (one_more o n) (use_switch o rows) (counted_more o rows n c zero) (subst (λ (w : Walk). walk_fault (plain_leaf true t) [] w words ≡ []) ((plain_takes t).walks o idle rows None) turn.1) in
+    let rest = later (one_more o n) (use_switch o rows) (counted_more o rows n c zero) r (subst (λ (w : Walk). walk_fault (plain_leaf true t) [] w words ≡ []) ((plain_takes t).walks o idle rows None) turn.1) in
     record {
       options = o ∷ rest.options;
       mark = rest.mark;
@@ -202,15 +219,18 @@ one_option t n rows o words later c e =
     }
 
 pub given : (t : Asked) (words : List Text) → Later t words
-given t [] n rows c e = record { options = []; mark = []; are = refl; end = inl refl; new = none_more n rows c }
-given t (word ∷ words) n rows c e = at (bytes_eq word dashes) (names_one (map switch_flag switches) (long_of word)) refl refl (given t words)
+given t [] n rows c r e = record { options = []; mark = []; are = refl; end = inl refl; new = none_more n rows c }
+given t (word ∷ words) n rows c r e = at (bytes_eq word dashes) (names_one (map switch_flag switches) (long_of word)) refl refl (given t words)
   where
+    reading : (is_reading word ≡ false) × (list_any is_reading words ≡ false)
+    reading = both_false (is_reading word) (list_any is_reading words) r
+
     at : (b k : Bool) → bytes_eq word dashes ≡ b → names_one (map switch_flag switches) (long_of word) ≡ k → Later t words → Given n (word ∷ words)
     at true k d f later = record { options = []; mark = word ∷ words; are = refl; end = inr (mark_last true t rows word words d e); new = none_more n rows c }
-    at false false d f later = absurd (other_fails true t rows word words d f e)
+    at false false d f later = absurd (other_fails true t rows word words d (long_is_option (long_of word) (both_false _ _ reading.0).0 ∙ f) reading.0 e)
     at false true d f later =
         let o = option_at t rows word d f (turn_none (plain_leaf true t) [] (between rows None) word words e).0 in
-        subst (λ (x : Text). Given n (x ∷ words)) (sym o.1) (one_option t n rows o.0 words later c (subst (λ (x : Text). NoFault true t rows (x ∷ words)) o.1 e))
+        subst (λ (x : Text). Given n (x ∷ words)) (sym o.1) (one_option t n rows o.0 words later c reading.1 (subst (λ (x : Text). NoFault true t rows (x ∷ words)) o.1 e))
 
 -- ---- what such words give
 
@@ -236,7 +256,7 @@ options_leave of past [] rows = ap of (no_default help_flag rows refl)
 options_leave of past (o ∷ os) rows = options_leave of past os (with_default rows (switch_flag o)) ∙ past o rows
 
 pub plain_defaults : (t : Asked) (o : Switch) (rows : List Row) → is_set (switch_name o) (fold with_default rows (plain_leaf true t).rules) ≡ is_set (switch_name o) rows
-plain_defaults t o rows = options_leave (is_set (switch_name o)) (default_set o) switches rows
+plain_defaults t o rows = options_leave (is_set (switch_name o)) (default_set o) switches (with_default rows read_flag) ∙ ap (is_set (switch_name o)) (no_default read_flag rows refl)
 
 -- each option is set where its word stands
 pub plain_set : (t : Asked) (os : List Switch) (mark : List Text) → IsEnd mark → AtMostOnce (λ o. 0) os → (o : Switch)

@@ -23,7 +23,7 @@ use Rattle.words_core.proofs.AskingWords.{line, stops}
 use Rattle.words_core.proofs.NamedWords.{IsTaken, at_most, taken_behind, wished}
 use Rattle.words_core.proofs.BlockWords.{all_said}
 use Rattle.words_core.proofs.LoneFlags.{help_flag}
-use Rattle.words_core.proofs.OptionRows.{Counted, counted_more, counted_past, default_other, default_set, more_given, more_other, more_own, none_given, once_if, one_if, one_more, recounted, row_at, set_other, set_where_given, switch_flag, times_first, times_own, use_switch}
+use Rattle.words_core.proofs.OptionRows.{Counted, counted_more, counted_past, default_other, default_set, more_given, more_other, more_own, none_given, once_if, one_if, one_more, read_flag, recounted, row_at, set_other, set_where_given, switch_flag, times_first, times_own, use_switch}
 use Rattle.words_core.proofs.OptionWalks.{Pending, TakesOptions, between, both_true, settled_to, settles, state}
 use Rattle.words_core.proofs.PlainWords.{none_yet, options_leave}
 use Rattle.words_core.proofs.Switches.{an_option, both_false, fails_at, holds_of}
@@ -318,7 +318,7 @@ all_arguments (word ∷ arguments) rows texts n b = go (is_option word) refl (al
 replay_leaves : {X : Type 0} (of : List Row → X) → ((o : Switch) (rows : List Row) → of (with_default rows (switch_flag o)) ≡ of rows)
     → (rows : List Row) → of (fold with_default rows replays.rules) ≡ of rows
 replay_leaves of past rows =
-    ap (λ (l : List Row). of (fold with_default l (map switch_flag switches ++ help_flag ∷ []))) (no_default block_argument rows refl)
+    ap (λ (l : List Row). of (fold with_default l (map switch_flag switches ++ help_flag ∷ []))) (no_default read_flag (with_default rows block_argument) refl ∙ no_default block_argument rows refl)
     ∙ options_leave of past switches rows
 
 pub block_default : (rows : List Row) → row_at (codes "BLOCK") (fold with_default rows replays.rules) ≡ row_at (codes "BLOCK") rows

@@ -6,7 +6,7 @@ use Rattle.clap.specs.declared.error.kind.ErrorKind.TheVariants as kind
 use Rattle.clap.proofs.OnLiterals.{clap_on_literals}
 use Rattle.words_core.specs.declared.option_words.Writing.{Writing}
 use Rattle.words_core.specs.declared.option_words.Writing.TheVariants.{Lines, Dated, Objects}
-use Rattle.words_core.specs.RequestLine.{Wish, request_faults, request_line, request_of_words, task_of_words}
+use Rattle.words_core.specs.RequestLine.{Wish, file_of_words, request_faults, request_line, request_of_words, task_of_words}
 use Rattle.words_core.specs.CommandLine.{Asked, block_at, check, import, list_blocks, losses, publish, replay_of, rewrite, show, watch}
 
 -- each command without arguments asks for its task
@@ -58,7 +58,7 @@ watches = record { two = refl; most = refl; joined = refl }
 
 -- a request with these options
 abbrev wishes : Asked → Bool → Bool → Writing → Option Wish
-wishes t is_capture skips_other writes = Some (Ok (t, record { is_capture = is_capture; skips_other = skips_other; unwraps = false; writes = writes }))
+wishes t is_capture skips_other writes = Some (Ok (t, record { is_capture = is_capture; skips_other = skips_other; unwraps = false; is_raw = false; writes = writes }))
 
 -- the options are those that stand behind the name, in any order, before the mark, once, of a command that takes them, and
 -- none that another excludes
@@ -67,7 +67,7 @@ pub record AreRequests : Type 0 where
   pub one : request_of_words (codes "goose" ∷ codes "show" ∷ codes "--capture" ∷ []) ≡ wishes show true false Lines
   pub both : request_of_words (codes "goose" ∷ codes "check" ∷ codes "--skip-other" ∷ codes "--capture" ∷ codes "--" ∷ []) ≡ wishes check true true Lines
   pub objects : request_of_words (codes "goose" ∷ codes "show" ∷ codes "--json" ∷ []) ≡ wishes show false false Objects
-  pub unwraps : request_of_words (codes "goose" ∷ codes "show" ∷ codes "--unwrap" ∷ codes "--skip-other" ∷ []) ≡ Some (Ok (show, record { is_capture = false; skips_other = true; unwraps = true; writes = Lines }))
+  pub unwraps : request_of_words (codes "goose" ∷ codes "show" ∷ codes "--unwrap" ∷ codes "--skip-other" ∷ []) ≡ Some (Ok (show, record { is_capture = false; skips_other = true; unwraps = true; is_raw = false; writes = Lines }))
   pub dated : request_of_words (codes "goose" ∷ codes "blocks" ∷ codes "--time" ∷ codes "--capture" ∷ []) ≡ wishes list_blocks true false Dated
   pub between : request_of_words (codes "goose" ∷ codes "watch" ∷ codes "--id=A" ∷ codes "--capture" ∷ codes "--period" ∷ codes "2" ∷ []) ≡ wishes (watch 2 (codes "A")) true false Lines
   pub twice : takes request_line (codes "goose" ∷ codes "show" ∷ codes "--capture" ∷ codes "--capture" ∷ []) ≡ false
@@ -99,6 +99,48 @@ requests = record {
   both_forms = refl;
   conflict = refl;
   no_dates = refl;
+}
+
+-- the file that words name
+abbrev reads : List Text → Option Text
+reads more = file_of_words (codes "goose" ∷ codes "show" ∷ more)
+
+-- in each spelling, once, of each command
+pub record AreFiles : Type 0 where
+  pub none : reads [] ≡ None
+  pub short : reads (codes "-r" ∷ codes "a.pcap" ∷ []) ≡ Some (codes "a.pcap")
+  pub behind : reads (codes "-ra.pcap" ∷ []) ≡ Some (codes "a.pcap")
+  pub equals : reads (codes "-r=a.pcap" ∷ []) ≡ Some (codes "a.pcap")
+  pub long : reads (codes "--time" ∷ codes "--read" ∷ codes "a.pcap" ∷ codes "--unwrap" ∷ []) ≡ Some (codes "a.pcap")
+  pub long_equals : reads (codes "--read=a.pcap" ∷ []) ≡ Some (codes "a.pcap")
+  pub standard_input : reads (codes "-r" ∷ codes "-" ∷ []) ≡ Some (codes "-")
+  pub taken : takes request_line (codes "goose" ∷ codes "losses" ∷ codes "-r" ∷ codes "a.pcap" ∷ codes "--period" ∷ codes "2" ∷ []) ≡ true
+  pub of_a_list : takes request_line (codes "goose" ∷ codes "rewrite" ∷ codes "-r" ∷ codes "a.list" ∷ []) ≡ true
+  pub of_a_script : takes request_line (codes "goose" ∷ codes "publish" ∷ codes "--read=a.script" ∷ []) ≡ true
+  pub of_records : takes request_line (codes "goose" ∷ codes "import" ∷ codes "-r" ∷ codes "a.pcap" ∷ []) ≡ true
+  pub beside_a_block : file_of_words (codes "goose" ∷ codes "replay" ∷ codes "0001,G,D,,1,1" ∷ codes "-r" ∷ codes "a.pcap" ∷ []) ≡ Some (codes "a.pcap")
+  pub twice : takes request_line (codes "goose" ∷ codes "show" ∷ codes "-r" ∷ codes "a" ∷ codes "--read" ∷ codes "a" ∷ []) ≡ false
+  pub no_name : takes request_line (codes "goose" ∷ codes "show" ∷ codes "-r" ∷ []) ≡ false
+  pub behind_mark : takes request_line (codes "goose" ∷ codes "show" ∷ codes "--" ∷ codes "-r" ∷ codes "a" ∷ []) ≡ false
+
+pub files : AreFiles
+unfolding clap_on_literals
+files = record {
+  none = refl;
+  short = refl;
+  behind = refl;
+  equals = refl;
+  long = refl;
+  long_equals = refl;
+  standard_input = refl;
+  taken = refl;
+  of_a_list = refl;
+  of_a_script = refl;
+  of_records = refl;
+  beside_a_block = refl;
+  twice = refl;
+  no_name = refl;
+  behind_mark = refl;
 }
 
 -- what is missing is asked for with a period in range, or with none, with the other options or without

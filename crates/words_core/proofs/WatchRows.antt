@@ -24,7 +24,7 @@ use Rattle.block_core.specs.Period.{IsPeriod}
 use Rattle.words_core.specs.RequestLine.{Switch, capture, offered, switch_name, switches}
 use Rattle.words_core.specs.CommandLine.{Meaning, id_rule, number_said, period_rule, watch, watch_asked, watch_shape}
 use Rattle.words_core.proofs.KeptRows.{EachKeeps, Keeps, Kept, end_keeps, found_keeps, given_value, leaf, level_checked, more_keeps, no_default, no_defaults, set_keeps, single_keeps, then_none, wanted}
-use Rattle.words_core.proofs.OptionRows.{self_eq, switch_flag}
+use Rattle.words_core.proofs.OptionRows.{read_flag, self_eq, switch_flag}
 
 -- ---- what a text is read as
 
@@ -102,6 +102,9 @@ help_option = with_index 1 (filled help_rule)
 help_keeps : (P : List Row → Type 0) → Keeps false P help_option
 help_keeps P values rows g e = let bad = then_none (range_kinds 0 0 (length values)) (kind.DisplayHelp ∷ []) e in cc
 
+pub not_read : (id : Text) → bytes_eq (codes "read") id ≡ false → codes "read" ≡ id → ⊥
+not_read id e same = true≢false (sym (subst (λ (w : Text). bytes_eq w id ≡ true) (sym same) (self_eq id)) ∙ e)
+
 two_names : codes "id" ≡ codes "period" → ⊥
 two_names e = true≢false (sym (ap (λ (w : Text). bytes_eq w (codes "period")) e))
 
@@ -128,13 +131,13 @@ switches_keep a other (o ∷ os) = (switch_keeps a o (other o), switches_keep a 
 period_kept : EachKeeps false (Kept period_option) watches.rules
 period_kept = (
   single_keeps false period_option period_option (refl, refl) (λ e. refl),
-  (single_keeps false period_option id_option (refl, refl) (λ e. absurd (two_names e)), switches_keep period_option not_period switches),
+  (single_keeps false period_option id_option (refl, refl) (λ e. absurd (two_names e)), (single_keeps false period_option read_flag (refl, refl) (λ e. absurd (not_read (codes "period") refl e)), switches_keep period_option not_period switches)),
 )
 
 id_kept : EachKeeps false (Kept id_option) watches.rules
 id_kept = (
   single_keeps false id_option period_option (refl, refl) (λ e. absurd (two_names (sym e))),
-  (single_keeps false id_option id_option (refl, refl) (λ e. refl), switches_keep id_option not_id switches),
+  (single_keeps false id_option id_option (refl, refl) (λ e. refl), (single_keeps false id_option read_flag (refl, refl) (λ e. absurd (not_read (codes "id") refl e)), switches_keep id_option not_id switches)),
 )
 
 -- words of `watch` without a fault
@@ -158,7 +161,7 @@ switch_defaults_keep a other (o ∷ os) given h = switch_defaults_keep a other o
 
 defaults_keep : (a : Rule) → ((o : Switch) → switch_name o ≡ a.id → ⊥) → (given : List Row) → Kept a given → Kept a (fold with_default given watches.rules)
 defaults_keep a other given h =
-    let own = no_defaults (period_option ∷ id_option ∷ []) given (refl, (refl, tt)) in
+    let own = no_defaults (period_option ∷ id_option ∷ read_flag ∷ []) given (refl, (refl, (refl, tt))) in
     subst (λ (l : List Row). Kept a (fold with_default l (map switch_flag switches ++ help_option ∷ []))) (sym own) (switch_defaults_keep a other switches given h)
 
 kept_rows : (a : Rule) → ((o : Switch) → switch_name o ≡ a.id → ⊥) → EachKeeps false (Kept a) watches.rules → (words : List Text) → IsFaultless words → Kept a (rows words)

@@ -25,7 +25,7 @@ use Rattle.words_core.proofs.AskingWords.{line, stops}
 use Rattle.words_core.proofs.KeptRows.{no_defaults}
 use Rattle.words_core.proofs.LoneFlags.{help_flag}
 use Rattle.words_core.proofs.NamedWords.{IsTaken, at_most, taken_behind, wished}
-use Rattle.words_core.proofs.OptionRows.{AtMostOnce, Counted, all_past, counted_all, counted_past, default_other, default_set, has_at, once_if, row_at, set_other, set_own, set_where_given, switch_flag, use_all, use_switch, with_times, words_of}
+use Rattle.words_core.proofs.OptionRows.{AtMostOnce, Counted, all_past, counted_all, counted_past, default_other, default_set, has_at, once_if, read_flag, row_at, set_other, set_own, set_where_given, switch_flag, use_all, use_switch, with_times, words_of}
 use Rattle.words_core.proofs.OptionWalks.{Ends, Leads, Pending, TakesOptions, between, chain, ends, level_ends, options_lead, rows_end, settled_to, settles, state}
 use Rattle.words_core.proofs.PlainWords.{none_yet, options_leave}
 use Rattle.words_core.proofs.WatchRows.{fits_back, id_option, period_option, watches}
@@ -276,7 +276,7 @@ module _ (a b : Rule) (name other : Text) (v u : Text) (x : Argument watches a n
 watch_leaves : {X : Type 0} (of : List Row → X) → ((o : Switch) (rows : List Row) → of (with_default rows (switch_flag o)) ≡ of rows)
     → (rows : List Row) → of (fold with_default rows watches.rules) ≡ of rows
 watch_leaves of past rows =
-    ap (λ (l : List Row). of (fold with_default l (map switch_flag switches ++ help_flag ∷ []))) (no_defaults (period_option ∷ id_option ∷ []) rows (refl, (refl, tt)))
+    ap (λ (l : List Row). of (fold with_default l (map switch_flag switches ++ help_flag ∷ []))) (no_defaults (period_option ∷ id_option ∷ read_flag ∷ []) rows (refl, (refl, (refl, tt))))
     ∙ options_leave of past switches rows
 
 pub watch_default : (id : Text) → ((o : Switch) → bytes_eq (switch_name o) id ≡ false) → (rows : List Row) → row_at id (fold with_default rows watches.rules) ≡ row_at id rows

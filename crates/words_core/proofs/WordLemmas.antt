@@ -26,7 +26,8 @@ use Rattle.words_core.proofs.KeptRows.{first_none, leaf, level_checked, then_non
 use Rattle.words_core.proofs.WatchRows.{watch_says}
 use Rattle.words_core.proofs.LossesRows.{losses_say}
 use Rattle.words_core.specs.CommandLine.{AnswersBadBlock, AnswersTask, Asked, HasPeriod, IsBlockError, IsNoMistake, Meaning, asked_by, blocks_in, check, first_bad_block, import, is_plain, list_blocks, losses, losses_shape, plain, publish, replay, replay_of, replay_shape, rewrite, show, task_asked, watch, watch_shape}
-use Rattle.words_core.specs.RequestLine.{AnswersRequest, AsksWith, MayRefuseRequest, RefusesBlock, Wish, offered, options_in, request_asked, request_faults, request_line, request_of_words, task_of_words, with_these}
+use Rattle.std.specs.List.{list_any}
+use Rattle.words_core.specs.RequestLine.{AnswersRequest, AsksWith, MayRefuseRequest, RefusesBlock, Wish, is_reading, offered, options_in, request_asked, request_faults, request_line, request_of_words, task_of_words, with_these}
 use Rattle.words_core.specs.computed.PrivateCalls.{MayAnswer}
 use Rattle.words_core.specs.computed.OfferedLine.{IsExclusion, MayGrant}
 
@@ -320,8 +321,8 @@ one_block t i e = cc
 
 -- what `read_request` says of its answers
 pub answered_plainly : (words : List Text) (answer : Answer) → IfOk answer (λ r. request_faults words ≡ []) → IfOk answer (Granted words)
-    → ((t : Asked) (options : Options) → fault_of request_line words ≡ [] → request_of_words words ≡ Some (Ok (t, options)) → is_plain t ≡ true → AsksWith words t options)
-    → IfOk answer (λ r. is_plain (asked_by r.task) ≡ true → AsksWith words (asked_by r.task) r.options)
+    → ((t : Asked) (options : Options) → fault_of request_line words ≡ [] → request_of_words words ≡ Some (Ok (t, options)) → is_plain t ≡ true → list_any is_reading words ≡ false → AsksWith words t options)
+    → IfOk answer (λ r. is_plain (asked_by r.task) ≡ true → list_any is_reading words ≡ false → AsksWith words (asked_by r.task) r.options)
 answered_plainly words (Ok r) none granted asks = asks (asked_by r.task) r.options (first_none (fault_of request_line words) _ none) granted
 answered_plainly words (Err e) none granted asks = tt
 

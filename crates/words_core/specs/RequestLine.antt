@@ -1,11 +1,12 @@
 -- The command line whole: the task and the options that its words ask for, and why words may be refused.
-use Rattle.std.specs.Prelude.{◌≡◌, ◌&&◌, ◌⊎◌, ℕ, true, false, not, Bool, List, [], ◌∷◌, ◌++◌, map, fold, filter, length, Option, Some, None, Result, Ok, Err, MatchResult, is_some, option_and_then, option_map, codes, if◌then◌else◌}
+use Rattle.std.specs.Prelude.{◌≡◌, ◌&&◌, ◌||◌, ◌⊎◌, ◌==◌, ℕ, slice_get, true, false, not, Bool, List, [], ◌∷◌, ◌++◌, map, fold, filter, length, Option, Some, None, Result, Ok, Err, MatchResult, is_some, option_and_then, option_map, codes, if◌then◌else◌}
 use Rattle.std.specs.Global.{Global}
 use Rattle.std.specs.List.{list_all, list_any}
 use Rattle.std.specs.Option.{option_map_or}
-use Rattle.std.specs.Str.{bytes_eq}
+use Rattle.std.specs.Str.{bytes_eq, chars}
 use Rattle.std.specs.Str.Parse.{IsNumeral, digits_value}
-use Rattle.clap.specs.Words.{App, IsAmong, Kinds, Row, Rule, Shape, Text, fault_of, kind_of, new_rule, one_of, subcommand_of, takes, with_subcommand}
+use Rattle.clap.specs.Lexer.{long_of, short_of}
+use Rattle.clap.specs.Words.{App, IsAmong, Kinds, Row, Rule, Shape, Text, fault_of, first_of, kind_of, new_rule, one_of, subcommand_of, takes, with_subcommand}
 use Rattle.clap.specs.Kinds.{or_else}
 use Rattle.clap.specs.declared.builder.action.ArgAction.TheVariants.{SetTrue}
 use Rattle.clap.specs.declared.error.kind.ErrorKind.TheVariants as kind
@@ -24,17 +25,19 @@ pub data Switch : Type 0 where
   capture : Switch
   skip_other : Switch
   unwrap : Switch
+  raw : Switch
   time : Switch
   json : Switch
 
 abbrev pub switches : List Switch
-switches = capture ∷ skip_other ∷ unwrap ∷ time ∷ json ∷ []
+switches = capture ∷ skip_other ∷ unwrap ∷ raw ∷ time ∷ json ∷ []
 
 -- the name of an option
 abbrev pub switch_name : Switch → Text
 switch_name capture = codes "capture"
 switch_name skip_other = codes "skip-other"
 switch_name unwrap = codes "unwrap"
+switch_name raw = codes "raw"
 switch_name time = codes "time"
 switch_name json = codes "json"
 
@@ -53,6 +56,7 @@ abbrev pub is_on : Options → Switch → Bool
 is_on options capture = options.is_capture
 is_on options skip_other = options.skips_other
 is_on options unwrap = options.unwraps
+is_on options raw = options.is_raw
 is_on options time = is_dated options.writes
 is_on options json = is_object options.writes
 
@@ -64,12 +68,20 @@ switch_word s = codes "--" ++ switch_name s
 abbrev pub option_named : Text → Rule
 option_named name = record (new_rule name) { long = Some name; action = Some SetTrue }
 
--- the options, where a subcommand takes them
-abbrev pub option_rules : Bool → List Rule
-option_rules true = map (λ o. option_named (switch_name o)) switches
-option_rules false = []
+-- the options without a value
+abbrev pub switch_rules : List Rule
+switch_rules = map (λ o. option_named (switch_name o)) switches
 
--- a subcommand's words, and behind them the options where it takes them
+-- the option -r (114), --read: the name of a file
+abbrev pub read_rule : Rule
+read_rule = record (new_rule (codes "read")) { long = Some (codes "read"); short = Some 114; value_names = 1 }
+
+-- what each subcommand takes beside its own words: the name of a file, and the options where it takes them
+abbrev pub option_rules : Bool → List Rule
+option_rules true = read_rule ∷ switch_rules
+option_rules false = read_rule ∷ []
+
+-- a subcommand's words, and behind them those
 abbrev pub offered : Bool → Shape → Shape
 offered takes s = record s { rules = s.rules ++ option_rules takes }
 
@@ -91,8 +103,13 @@ writing_by true true = None
 -- the options that the matches of a subcommand give; none where two exclude each other
 abbrev pub options_in : List Row → Option Options
 options_in rows =
-    option_map
-    (λ writes. record { is_capture = is_set (switch_name capture) rows; skips_other = is_set (switch_name skip_other) rows; unwraps = is_set (switch_name unwrap) rows; writes = writes })
+    option_map (λ writes. record {
+      is_capture = is_set (switch_name capture) rows;
+      skips_other = is_set (switch_name skip_other) rows;
+      unwraps = is_set (switch_name unwrap) rows;
+      is_raw = is_set (switch_name raw) rows;
+      writes = writes;
+    })
     (writing_by (is_set (switch_name time) rows) (is_set (switch_name json) rows))
 
 -- what the matches of a subcommand ask for: a task with options, or none because of the text at this position
@@ -114,6 +131,22 @@ request_of_words words = option_and_then request_asked (subcommand_of request_li
 -- what of it is a task, whatever options stand there
 abbrev pub task_of_words : List Text → Option Meaning
 task_of_words words = option_and_then task_asked (subcommand_of request_line words)
+
+-- the name of the file that the subcommand that was met is to read
+abbrev pub file_asked : Text × List Row → Option Text
+file_asked met = first_of (codes "read") met.1
+
+-- the name of the file that is to be read in place of standard input
+abbrev pub file_of_words : List Text → Option Text
+file_of_words words = option_and_then file_asked (subcommand_of request_line words)
+
+-- the first of short names is `r` (114)
+abbrev pub begins_reading : Text → Bool
+begins_reading flags = option_map_or (λ c. 114 == c) (slice_get (chars flags) 0) false
+
+-- the word gives the name of a file, or announces one: by the long name of the option, or by its short one
+abbrev pub is_reading : Text → Bool
+is_reading word = option_map_or (λ p. bytes_eq (codes "read") p.0) (long_of word) false || option_map_or begins_reading (short_of word) false
 
 -- what may be wrong with the words, or asked for in place of a task: the kinds of error of the
 -- first step that fails, or that of options which exclude each other, where no step fails

@@ -1,7 +1,7 @@
 //! The options of the commands that read events, beside words of their own: on the input, and on what is written.
 ghost use Rattle.std.specs.Prelude.{◌≡◌, fold, true, false};
 ghost use Rattle.clap.specs.Words.{App, Rule, found_of, rows_of, rule_of, with_rule, with_subcommand};
-ghost use Rattle.words_core.specs.RequestLine.{is_set, option_named, option_rules, options_in, writing_by};
+ghost use Rattle.words_core.specs.RequestLine.{is_set, option_named, options_in, read_rule, switch_rules, writing_by};
 ghost use Rattle.words_core.specs.computed.OfferedLine.{IsApp, IsLocal, offering};
 
 use clap::{Arg, ArgAction, ArgMatches, Command};
@@ -27,6 +27,8 @@ pub struct Options {
     pub skips_other: bool,
     /// Frames are looked at without HSR tags, and without each VLAN tag before another; before frames are skipped.
     pub unwraps: bool,
+    /// Nothing is done to the frames of a file that is read by its name: frames are not unwrapped, and none are passed over.
+    pub is_raw: bool,
     /// How each line is written.
     pub writes: Writing,
 }
@@ -44,11 +46,29 @@ const SKIP_OTHER_HELP: &str =
 // What the help says of `--unwrap`.
 const UNWRAP_HELP: &str = "Looks at frames without HSR tags, and without VLAN tags before another";
 
+// What the help says of `--raw`.
+const RAW_HELP: &str = "With -r: passes over no frames, and looks at them with all tags";
+
 // What the help says of `--time`.
 const TIME_HELP: &str = "Begins each line with the date of its event, in UTC";
 
 // What the help says of `--json`.
 const JSON_HELP: &str = "Writes JSON objects, one a line, in place of text";
+
+// What the help says of `--read`.
+const READ_HELP: &str = "Reads FILE in place of standard input, which - stands for";
+
+// The option `-r`, `--read`.
+fn read_option<'a>(alloc: Global) -> Arg<'a>
+    ensures rule { rule_of result ≡ read_rule }
+    ensures local { result.global ≡ false }
+{
+    Arg::new(alloc, "read")
+        .short('r')
+        .long("read")
+        .value_name("FILE")
+        .help(READ_HELP)
+}
 
 // An option without a value.
 fn flag_option<'a>(alloc: Global, name: &'a str, help: &'a str) -> Arg<'a>
@@ -75,21 +95,23 @@ pub fn with_arg<'a>(command: Made<'a>, arg: Arg<'a>) -> Made<'a>
 
 // The command with the options.
 fn with_each<'a>(alloc: Global, command: Made<'a>) -> Made<'a>
-    ensures app { (a : App) → IsApp a command.entry → IsApp (fold with_rule a (option_rules true)) result }
+    ensures app { (a : App) → IsApp a command.entry → IsApp (fold with_rule a switch_rules) result }
     ensures local { IsLocal command.entry → IsLocal result }
 {
     let command = with_arg(command, flag_option(alloc, "capture", CAPTURE_HELP));
     let command = with_arg(command, flag_option(alloc, "skip-other", SKIP_OTHER_HELP));
     let command = with_arg(command, flag_option(alloc, "unwrap", UNWRAP_HELP));
+    let command = with_arg(command, flag_option(alloc, "raw", RAW_HELP));
     let command = with_arg(command, flag_option(alloc, "time", TIME_HELP));
     with_arg(command, flag_option(alloc, "json", JSON_HELP))
 }
 
-// The command with the options, where it takes them.
+// The command with the name of a file, and with the options, where it takes them.
 fn with_options<'a>(alloc: Global, command: Made<'a>, takes_options: bool) -> Made<'a>
     ensures app { (a : App) → IsApp a command.entry → IsApp (offering takes_options a) result }
     ensures local { IsLocal command.entry → IsLocal result }
 {
+    let command = with_arg(command, read_option(alloc));
     if takes_options {
         with_each(alloc, command)
     } else {
@@ -147,11 +169,13 @@ pub fn options_met(matches: &ArgMatches<'_>) -> Option<Options>
     let is_capture = is_set(matches, "capture");
     let skips_other = is_set(matches, "skip-other");
     let unwraps = is_set(matches, "unwrap");
+    let is_raw = is_set(matches, "raw");
     match writing_by(is_set(matches, "time"), is_set(matches, "json")) {
         Some(writes) => Some(Options {
             is_capture,
             skips_other,
             unwraps,
+            is_raw,
             writes,
         }),
         None => None,

@@ -1,12 +1,13 @@
 //! The command line of the program `goose`. The parser of words, `clap`, is called here alone.
-ghost use Rattle.std.specs.Prelude.{◌≡◌, ◌≢◌, ℕ, true, false, codes, fold, is_some, map, option_map, Some, [], IfOk, IfErr, Err, Ok, option_and_then};
-ghost use Rattle.clap.specs.Words.{App, all_of, app_of, found_of, kind_of, new_app, rows_of, rule_of, subcommand_rows_of, takes, with_subcommand};
+ghost use Rattle.std.specs.Prelude.{◌≡◌, ◌≢◌, ℕ, true, false, codes, fold, is_some, map, option_map, Some, [], IfOk, IfErr, IfSome, Err, Ok, option_and_then};
+ghost use Rattle.std.specs.List.{list_any};
+ghost use Rattle.clap.specs.Words.{App, all_of, app_of, first_of, found_of, kind_of, new_app, rows_of, rule_of, subcommand_rows_of, takes, with_subcommand};
 ghost use Rattle.clap.specs.Walk.{texts};
 ghost use Rattle.clap.specs.declared.error.kind.ErrorKind.TheVariants.{OutOfMemory};
 ghost use Rattle.words_core.specs.CommandLine.{AnswersBadBlock, AnswersTask, Asked, HasPeriod, IsNoMistake};
 ghost use Rattle.words_core.specs.CommandLine.{asked_by, bare_program, block_rule, id_rule, is_plain, losing, losses_asked, name_of, period_rule, readers, replay_of, replaying, stream_period_rule, task_asked, watch, watch_asked, watching};
 ghost use Rattle.words_core.specs.computed.PrivateCalls.{AnswersWords, MayAnswer};
-ghost use Rattle.words_core.specs.RequestLine.{AnswersRequest, Asks, AsksWith, MayRefuseRequest, RefusesBlock, offered, request_asked, request_faults, request_line, request_of_words, takes_request, task_of_words};
+ghost use Rattle.words_core.specs.RequestLine.{AnswersRequest, Asks, AsksWith, MayRefuseRequest, RefusesBlock, file_asked, file_of_words, is_reading, offered, request_asked, request_faults, request_line, request_of_words, takes_request, task_of_words};
 ghost use Rattle.words_core.specs.computed.OfferedLine.{IsApp, IsExclusion, IsLocal, MayGrant};
 
 use crate::option_words::{Made, Options, options_met, with_arg, with_offering};
@@ -66,13 +67,15 @@ impl Task {
     }
 }
 
-/// What a command line asks for: a task, and its options.
+/// What a command line asks for: a task, its options, and the file that it is to read.
 #[derive(Drop)]
-pub struct Request {
+pub struct Request<'a> {
     /// What to do.
     pub task: Task,
     /// How to take the input, and how to write what is told.
     pub options: Options,
+    /// The name of the file that is to be read in place of standard input, if one is given; `-` stands for standard input.
+    pub file: Option<&'a str>,
 }
 
 /// Why words ask for nothing that can be done.
@@ -421,34 +424,49 @@ fn task_of(alloc: Global, name: &str, matches: &ArgMatches<'_>) -> Option<Result
 }
 
 // The request of a task, where there is one.
-fn with_these(answer: Result<Task, WordsError>, options: Options) -> Result<Request, WordsError>
+fn with_these<'a>(
+    answer: Result<Task, WordsError>,
+    options: Options,
+    file: Option<&'a str>,
+) -> Result<Request<'a>, WordsError>
+    ensures file { IfOk result (λ r. option_map (λ s. s.now) r.file ≡ option_map (λ s. s.now) file.entry) }
     ensures answered { (asked : Asked) → AnswersTask asked answer → AnswersRequest asked options result }
     ensures refused { (i : ℕ) → AnswersBadBlock i answer → RefusesBlock i result }
 {
     match answer {
-        Ok(task) => Ok(Request { task, options }),
+        Ok(task) => Ok(Request {
+            task,
+            options,
+            file,
+        }),
         Err(error) => Err(error),
     }
 }
 
 // The request of a subcommand's name and its matches; none where options exclude each other.
-fn request_of(
+fn request_of<'a>(
     alloc: Global,
     name: &str,
-    matches: &ArgMatches<'_>,
-) -> Option<Result<Request, WordsError>>
-    ensures { MayGrant (request_asked (name.now, rows_of (found_of matches.now))) result }
+    matches: &ArgMatches<'a>,
+) -> Option<Result<Request<'a>, WordsError>>
+    ensures request { MayGrant (request_asked (name.now, rows_of (found_of matches.now))) result }
+    ensures file { IfSome result (λ answer. IfOk answer (λ r. option_map (λ s. s.now) r.file ≡ first_of (codes "read") (rows_of (found_of matches.now)))) }
 {
     let options = options_met(matches)?;
+    let file = matches.get_str("read");
     match task_of(alloc, name, matches) {
-        Some(answer) => Some(with_these(answer, options)),
+        Some(answer) => Some(with_these(answer, options, file)),
         None => None,
     }
 }
 
 // The request of the subcommand that the words named; none where options exclude each other.
-fn request_met(alloc: Global, matches: &ArgMatches<'_>) -> Option<Result<Request, WordsError>>
-    ensures { MayGrant (option_and_then request_asked (subcommand_rows_of matches.now)) result }
+fn request_met<'a>(
+    alloc: Global,
+    matches: &ArgMatches<'a>,
+) -> Option<Result<Request<'a>, WordsError>>
+    ensures request { MayGrant (option_and_then request_asked (subcommand_rows_of matches.now)) result }
+    ensures file { IfSome result (λ answer. IfOk answer (λ r. option_map (λ s. s.now) r.file ≡ option_and_then file_asked (subcommand_rows_of matches.now))) }
 {
     match matches.subcommand() {
         Some((name, inner)) => request_of(alloc, name, inner),
@@ -479,7 +497,8 @@ fn exclusion(alloc: Global) -> WordsError
 }
 
 // The request that the words make.
-fn read_line<'a>(alloc: Global, words: &'a [&'a str]) -> Result<Request, WordsError>
+fn read_line<'a>(alloc: Global, words: &'a [&'a str]) -> Result<Request<'a>, WordsError>
+    ensures file { IfOk result (λ r. option_map (λ s. s.now) r.file ≡ file_of_words (texts words.now)) }
     ensures wish { IfOk result (λ r. request_of_words (texts words.now) ≡ Some (Ok (asked_by r.task, r.options))) }
     ensures faultless { IfOk result (λ r. request_faults (texts words.now) ≡ []) }
     ensures taken { takes request_line (texts words.now) ≡ true → is_some (request_of_words (texts words.now)) ≡ true → IfErr result IsNoMistake }
@@ -498,16 +517,18 @@ fn read_line<'a>(alloc: Global, words: &'a [&'a str]) -> Result<Request, WordsEr
     }
 }
 
-/// The task that the words ask for, and its options: `--capture`, `--skip-other`, `--unwrap`, `--time` and `--json`,
-/// which the commands `show`, `check`, `blocks`, `replay`, `watch` and `losses` take. The first word is the program's name.
+/// The task that the words ask for, its options, `--capture`, `--skip-other`, `--unwrap`, `--raw`, `--time` and `--json`, which the commands
+/// `show`, `check`, `blocks`, `replay`, `watch` and `losses` take, and the file that it is to read, `-r` or `--read`, which all
+/// take. The first word is the program's name.
 ///
 /// # Errors
 ///
 /// `Words` where the words have a mistake or ask for help or the version; `Block` where they ask for a
 /// replay and some text says no control block; `Memory` where memory is refused. An option that is given twice is a
 /// mistake, and so is one of another command, or `--time` beside `--json`.
-pub fn read_request<'a>(alloc: Global, words: &'a [&'a str]) -> Result<Request, WordsError>
-    ensures found { IfOk result (λ r. is_plain (asked_by r.task) ≡ true → AsksWith (texts words.now) (asked_by r.task) r.options) }
+pub fn read_request<'a>(alloc: Global, words: &'a [&'a str]) -> Result<Request<'a>, WordsError>
+    ensures found { IfOk result (λ r. is_plain (asked_by r.task) ≡ true → list_any is_reading (texts words.now) ≡ false → AsksWith (texts words.now) (asked_by r.task) r.options) }
+    ensures file { IfOk result (λ r. option_map (λ s. s.now) r.file ≡ file_of_words (texts words.now)) }
     ensures only { (asked : Asked) (options : Options) → AsksWith (texts words.now) asked options → AnswersRequest asked options result }
     ensures period { IfOk result (λ r. HasPeriod (asked_by r.task)) }
     ensures request { IfOk result (λ r. request_of_words (texts words.now) ≡ Some (Ok (asked_by r.task, r.options))) }
@@ -525,7 +546,7 @@ pub fn read_request<'a>(alloc: Global, words: &'a [&'a str]) -> Result<Request, 
 ///
 /// As of [`read_request`].
 pub fn read_words<'a>(alloc: Global, words: &'a [&'a str]) -> Result<Task, WordsError>
-    ensures found { IfOk result (λ t. is_plain (asked_by t) ≡ true → Asks (texts words.now) (asked_by t)) }
+    ensures found { IfOk result (λ t. is_plain (asked_by t) ≡ true → list_any is_reading (texts words.now) ≡ false → Asks (texts words.now) (asked_by t)) }
     ensures only { (asked : Asked) → Asks (texts words.now) asked → AnswersTask asked result }
     ensures period { IfOk result (λ t. HasPeriod (asked_by t)) }
     ensures task { IfOk result (λ t. task_of_words (texts words.now) ≡ Some (Ok (asked_by t))) }

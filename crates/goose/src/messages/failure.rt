@@ -26,6 +26,22 @@ impl Failure {
     }
 }
 
+/// A file that cannot be read, by its name.
+#[derive(Clone, Copy)]
+pub struct Unread<'a> {
+    /// The name.
+    pub file: &'a str,
+    /// Why.
+    pub error: io::Error,
+}
+
+impl fmt::Display for Unread<'_> {
+    fn fmt<W: fmt::Write>(&self, f: &mut fmt::Formatter<W>) -> fmt::Result {
+        write!(f, "{}: ", self.file)?;
+        write_reason(f, &self.error)
+    }
+}
+
 // Writes what the system says of an error, without its number.
 fn write_reason<W: fmt::Write>(f: &mut fmt::Formatter<W>, error: &io::Error) -> fmt::Result {
     let mut said = ArrayString::<LONGEST_REASON>::new();

@@ -1,4 +1,5 @@
 use Rattle.std.proofs.Common.{◌≡◌, ◌∙◌, [], List, Option, Some, None, option_and_then, sym, ap, subst}
+use Rattle.std.specs.Prelude.{IfOk, IfSome, option_map}
 use Rattle.std.proofs.lemmas.Result.{IfErr-weaker, IfOk-weaker}
 use Rattle.clap.specs.Words.{App, HasKind, Row, Text, fault_of, is_simple, is_simple_and_free, subcommand_of, takes}
 use Rattle.clap.specs.Walk.{texts}
@@ -6,21 +7,27 @@ use Rattle.words_core.specs.CommandLine.{IsNoMistake}
 use Rattle.words_core.specs.computed.OfferedLine.{MayGrant}
 use Rattle.words_core.proofs.WordLemmas.{agreed, answers_found, answers_refused, excluded, free_line, granted_faultless, may_refuse, no_wish, simple_line}
 use Rattle.words_core.proofs.words.read_line.Goals as goal
-use Rattle.words_core.specs.RequestLine.{request_asked, request_line, request_of_words}
+use Rattle.words_core.specs.RequestLine.{file_asked, request_asked, request_line, request_of_words}
 
 pub returns-in-Some-clause-wish : goal.returns-in-Some-clause-wish
 returns-in-Some-clause-wish c =
     let words = texts c.args.words.now in
     let rows = (c.in-Ok-try_get_matches_from.ensures.matches (ap is_simple c.in-Ok.ensures ∙ simple_line)).1 ∙ ap (λ (a : App). subcommand_of a words) c.in-Ok.ensures in
-    let may : MayGrant (request_of_words words) (Some c.in-Some.answer) = rw c.in-Some.is at (subst (λ (o : Option (Text × List Row)). MayGrant (option_and_then request_asked o) c.request_met.result) rows c.request_met.ensures) in
+    let may : MayGrant (request_of_words words) (Some c.in-Some.answer) = rw c.in-Some.is at (subst (λ (o : Option (Text × List Row)). MayGrant (option_and_then request_asked o) c.request_met.result) rows c.request_met.ensures.request) in
     answers_found words c.in-Some.answer may
+
+pub returns-in-Some-clause-file : goal.returns-in-Some-clause-file
+returns-in-Some-clause-file c =
+    let words = texts c.args.words.now in
+    let rows = (c.in-Ok-try_get_matches_from.ensures.matches (ap is_simple c.in-Ok.ensures ∙ simple_line)).1 ∙ ap (λ (a : App). subcommand_of a words) c.in-Ok.ensures in
+    rw c.in-Some.is at (subst (λ (o : Option (Text × List Row)). IfSome c.request_met.result (λ answer. IfOk answer (λ r. option_map (λ s. s.now) r.file ≡ option_and_then file_asked o))) rows c.request_met.ensures.file)
 
 pub returns-in-Some-clause-faultless : goal.returns-in-Some-clause-faultless
 returns-in-Some-clause-faultless c =
     let words = texts c.args.words.now in
     let rows = (c.in-Ok-try_get_matches_from.ensures.matches (ap is_simple c.in-Ok.ensures ∙ simple_line)).1 ∙ ap (λ (a : App). subcommand_of a words) c.in-Ok.ensures in
     let none : fault_of request_line words ≡ [] = subst (λ (a : App). fault_of a words ≡ []) c.in-Ok.ensures (c.in-Ok-try_get_matches_from.ensures.kinds (ap is_simple_and_free c.in-Ok.ensures ∙ free_line)) in
-    let may : MayGrant (request_of_words words) (Some c.in-Some.answer) = rw c.in-Some.is at (subst (λ (o : Option (Text × List Row)). MayGrant (option_and_then request_asked o) c.request_met.result) rows c.request_met.ensures) in
+    let may : MayGrant (request_of_words words) (Some c.in-Some.answer) = rw c.in-Some.is at (subst (λ (o : Option (Text × List Row)). MayGrant (option_and_then request_asked o) c.request_met.result) rows c.request_met.ensures.request) in
     IfOk-weaker c.in-Some.answer _ _ (λ r h. granted_faultless words r none h) (answers_found words c.in-Some.answer may)
 
 pub returns-in-Some-clause-taken : goal.returns-in-Some-clause-taken
@@ -28,7 +35,7 @@ returns-in-Some-clause-taken c = λ taken agrees.
     let words = texts c.args.words.now in
     let rows = (c.in-Ok-try_get_matches_from.ensures.matches (ap is_simple c.in-Ok.ensures ∙ simple_line)).1 ∙ ap (λ (a : App). subcommand_of a words) c.in-Ok.ensures in
     let none : fault_of request_line words ≡ [] = subst (λ (a : App). fault_of a words ≡ []) c.in-Ok.ensures (c.in-Ok-try_get_matches_from.ensures.kinds (ap is_simple_and_free c.in-Ok.ensures ∙ free_line)) in
-    let may : MayGrant (request_of_words words) (Some c.in-Some.answer) = rw c.in-Some.is at (subst (λ (o : Option (Text × List Row)). MayGrant (option_and_then request_asked o) c.request_met.result) rows c.request_met.ensures) in
+    let may : MayGrant (request_of_words words) (Some c.in-Some.answer) = rw c.in-Some.is at (subst (λ (o : Option (Text × List Row)). MayGrant (option_and_then request_asked o) c.request_met.result) rows c.request_met.ensures.request) in
     IfErr-weaker c.in-Some.answer _ _ (λ e h. h.1) (answers_refused words c.in-Some.answer none may)
 
 pub returns-in-Some-clause-refused : goal.returns-in-Some-clause-refused
@@ -36,7 +43,7 @@ returns-in-Some-clause-refused c =
     let words = texts c.args.words.now in
     let rows = (c.in-Ok-try_get_matches_from.ensures.matches (ap is_simple c.in-Ok.ensures ∙ simple_line)).1 ∙ ap (λ (a : App). subcommand_of a words) c.in-Ok.ensures in
     let none : fault_of request_line words ≡ [] = subst (λ (a : App). fault_of a words ≡ []) c.in-Ok.ensures (c.in-Ok-try_get_matches_from.ensures.kinds (ap is_simple_and_free c.in-Ok.ensures ∙ free_line)) in
-    let may : MayGrant (request_of_words words) (Some c.in-Some.answer) = rw c.in-Some.is at (subst (λ (o : Option (Text × List Row)). MayGrant (option_and_then request_asked o) c.request_met.result) rows c.request_met.ensures) in
+    let may : MayGrant (request_of_words words) (Some c.in-Some.answer) = rw c.in-Some.is at (subst (λ (o : Option (Text × List Row)). MayGrant (option_and_then request_asked o) c.request_met.result) rows c.request_met.ensures.request) in
     IfErr-weaker c.in-Some.answer _ _ (λ e h. h.0) (answers_refused words c.in-Some.answer none may)
 
 pub returns-in-Ok-try_get_matches_from-clause-taken : goal.returns-in-Ok-try_get_matches_from-clause-taken
@@ -44,7 +51,7 @@ returns-in-Ok-try_get_matches_from-clause-taken c = λ taken agrees.
     let words = texts c.args.words.now in
     let rows = (c.in-Ok-try_get_matches_from.ensures.matches (ap is_simple c.in-Ok.ensures ∙ simple_line)).1 ∙ ap (λ (a : App). subcommand_of a words) c.in-Ok.ensures in
     let none : fault_of request_line words ≡ [] = subst (λ (a : App). fault_of a words ≡ []) c.in-Ok.ensures (c.in-Ok-try_get_matches_from.ensures.kinds (ap is_simple_and_free c.in-Ok.ensures ∙ free_line)) in
-    let nothing : request_of_words words ≡ None = no_wish (request_of_words words) (rw c.in-None.is at (subst (λ (o : Option (Text × List Row)). MayGrant (option_and_then request_asked o) c.request_met.result) rows c.request_met.ensures)) in
+    let nothing : request_of_words words ≡ None = no_wish (request_of_words words) (rw c.in-None.is at (subst (λ (o : Option (Text × List Row)). MayGrant (option_and_then request_asked o) c.request_met.result) rows c.request_met.ensures.request)) in
     absurd (agreed words none nothing agrees)
 
 pub returns-in-Ok-try_get_matches_from-clause-refused : goal.returns-in-Ok-try_get_matches_from-clause-refused
@@ -52,7 +59,7 @@ returns-in-Ok-try_get_matches_from-clause-refused c =
     let words = texts c.args.words.now in
     let rows = (c.in-Ok-try_get_matches_from.ensures.matches (ap is_simple c.in-Ok.ensures ∙ simple_line)).1 ∙ ap (λ (a : App). subcommand_of a words) c.in-Ok.ensures in
     let none : fault_of request_line words ≡ [] = subst (λ (a : App). fault_of a words ≡ []) c.in-Ok.ensures (c.in-Ok-try_get_matches_from.ensures.kinds (ap is_simple_and_free c.in-Ok.ensures ∙ free_line)) in
-    let nothing : request_of_words words ≡ None = no_wish (request_of_words words) (rw c.in-None.is at (subst (λ (o : Option (Text × List Row)). MayGrant (option_and_then request_asked o) c.request_met.result) rows c.request_met.ensures)) in
+    let nothing : request_of_words words ≡ None = no_wish (request_of_words words) (rw c.in-None.is at (subst (λ (o : Option (Text × List Row)). MayGrant (option_and_then request_asked o) c.request_met.result) rows c.request_met.ensures.request)) in
     excluded words c.exclusion.result none nothing c.exclusion.ensures
 
 pub returns-clause-taken : goal.returns-clause-taken

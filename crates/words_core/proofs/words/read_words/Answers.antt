@@ -4,7 +4,7 @@ use Rattle.words_core.proofs.WordLemmas.{task_wished}
 use Rattle.words_core.proofs.words.read_words.Goals as goal
 
 pub returns-in-Ok-clause-found : goal.returns-in-Ok-clause-found
-returns-in-Ok-clause-found c = λ plainly. (c.in-Ok.request.options, c.in-Ok.ensures.found plainly)
+returns-in-Ok-clause-found c = λ plainly reading. (c.in-Ok.request.options, c.in-Ok.ensures.found plainly reading)
 
 pub returns-in-Ok-clause-only : goal.returns-in-Ok-clause-only
 returns-in-Ok-clause-only c = λ wish asks. (c.in-Ok.ensures.only wish asks.0 asks.1).0
