@@ -22,6 +22,8 @@ ASDU = re.compile(rb'"svID":("(?:[^"\\]|\\.)*"),"datSet":(?:null|"(?:[^"\\]|\\.)
 COUNT = re.compile(rb'"smpCnt":(\d+)')
 # A sender of GOOSE, whose simulation stands further on.
 SENDER = re.compile(rb'"appid":"\w+"|"gocbRef":"(?:[^"\\]|\\.)*"')
+# What tells the control block or the stream of a line: its source, its APPID, and its gocbRef or the svIDs of its ASDUs.
+OWN = re.compile(rb'"source":"\w+"|"appid":"\w+"|"(?:gocbRef|svID)":"(?:[^"\\]|\\.)*"')
 # What differs from one frame of a stream to the next, each by what it looks like. The groups are those of a wave in reporting/samples.py.
 DIFFERS = {b"smpCnt": rb'"smpCnt":(\d+)', b"refrTm": rb'"refrTm":"[^"]*","refrTime":(?:null|"[^"]*"),"refrQuality":\{[^}]*\}',
            b"sample": rb'"sample":"([^"]*)"', b"field89": rb'"field89":(?:null|"[^"]*")'}
@@ -128,7 +130,8 @@ class Station:
         self.sequences, self.malformed, self.wraps = Sequences(), Malformed(), Wraps()
         self.first, self.last, self.span = None, None, None
         # How lines of each sender are laid out; and by their kind what looks at one, at many of one shape, and what tells the shape of one.
-        self.shapes, self.tried, self.alone, self.skips, self.looks = {}, {}, 0, 0, {b"goose": self.goose, b"sv": self.sampled, b"fault": self.fault}
+        self.shapes, self.owners, self.tried, self.alone, self.skips = {}, {}, {}, 0, 0
+        self.looks = {b"goose": self.goose, b"sv": self.sampled, b"fault": self.fault}
         self.alike, self.shape_of = {b"goose": self.states_alike, b"sv": self.samples_alike}, {b"goose": self.shape_of_goose, b"sv": self.shape_of_sampled}
 
     def see_blocks(self, lines):
@@ -166,19 +169,34 @@ class Station:
             self.see_between(lines, alone)
             return
         self.times.see_all(heads, times)
-        first, self.alone = int(heads.first[1]), 0
+        self.alone, owners = 0, {}
         for key, places in groups.items():
             kind = key[:key.index(b'"')]
             self.kinds[kind] = self.kinds.get(kind, 0) + len(places)
             if kind in self.looks:
-                run = Run(those(lines, places), those(times, places), places, first, heads.until)
-                parts = run.by_size() if len(places) >= FEW else ()
-                if len(parts) * FEW > len(places) or not parts:
-                    self.see_lines(kind, run)
-                else:
-                    for part in parts:
-                        self.see_run(kind, key, part)
+                owners.setdefault(self.owner_of(key, lines[places[0]]), []).append((key, places))
+        for (kind, *_), held in owners.items():
+            places = held[0][1] if len(held) == 1 else sorted(at for _, places in held for at in places)
+            self.see_owner(kind, held, Run(those(lines, places), those(times, places), places, int(heads.first[1]), heads.until))
         self.skips = SKIPS if 2 * self.alone > len(lines) else 0
+
+    def owner_of(self, key, line):
+        """The control block or the stream of a line, by the beginning of it that is a key."""
+        if key not in self.owners:
+            if len(self.owners) >= MOST_SHAPES:
+                self.owners.clear()
+            kind, own = key[:key.index(b'"')], OWN.findall(line)
+            self.owners[key] = (kind, *own[1:3]) if kind == b"goose" else (kind, *own[:3])
+        return self.owners[key]
+
+    def see_owner(self, kind, held, run):
+        """Lines of one control block or stream: one by one, where they are sent in several ways, or are of ever other sizes."""
+        parts = run.by_size() if len(held) == 1 and len(run.lines) >= FEW else ()
+        if not parts or len(parts) * FEW > len(run.lines):
+            self.see_lines(kind, run)
+        else:
+            for part in parts:
+                self.see_run(kind, held[0][0], part)
 
     def see_between(self, lines, places):
         """The lines at some places one by one, and those between these in parts."""

@@ -1,0 +1,137 @@
+"""A page that looks at many lines of goose at once finds what it does one by one: of senders, samples, events and pictures."""
+import json
+import random
+import re
+
+from helpers import fault_station, made_station
+from helpers.asked_tools import module
+from helpers.capture_parts import header, record
+from helpers.fault_station import Unit, pairs
+from helpers.harness import run
+from themes.report import OPTIONS
+
+SECOND, PARTS = 10**6, (1, 70, 300, 5000)
+# What of the objects says only how they came to what they say.
+HOW = {"shapes", "owners", "tried", "alone", "skips", "looks", "alike", "shape_of", "flows", "frames", "waiting", "sorts", "state", "since", "told", "until", "number_of",
+       "renewals", "of_block", "excuse", "names", "recent", "now", "head", "rate_of", "clock_of", "line", "samples", "paces", "text", "qualities", "burst"}
+
+
+def plain(it, held=()):
+    """What an object says, as lists, numbers and texts."""
+    if isinstance(it, re.Match):
+        return it[0]
+    if it is None or isinstance(it, (bool, int, float, str, bytes, bytearray)):
+        return it
+    if id(it) in held:
+        return "again"
+    held = (*held, id(it))
+    if isinstance(it, dict):
+        return [(plain(key, held), plain(value, held)) for key, value in it.items()]
+    if isinstance(it, (list, tuple)) or hasattr(it, "popleft"):
+        return [plain(part, held) for part in it]
+    if isinstance(it, (set, frozenset)):
+        return sorted(map(repr, it))
+    names = [*getattr(it, "__dict__", ()), *getattr(it, "__slots__", ())]
+    return [(name, plain(getattr(it, name), held)) for name in names if name not in HOW] if names else None
+
+
+def unlike(one, other, path=""):
+    """Where two of these differ first, or None."""
+    if isinstance(one, (list, tuple)) and isinstance(other, (list, tuple)) and len(one) == len(other):
+        name = one[0] if len(one) == 2 and isinstance(one[0], str) else ""
+        found = (unlike(ours, theirs, f"{path}/{name or at}") for at, (ours, theirs) in enumerate(zip(one, other)))
+        return next(filter(None, found), None)
+    return None if one == other else f"{path}: {repr(one)[:200]} and {repr(other)[:200]}"
+
+
+def parts_of(lines, size):
+    return (lines[at:at + size] for at in range(0, len(lines), size))
+
+
+class Alike:
+    """A capture whose lines are taken in parts of several sizes."""
+
+    def __init__(self, name, made, period):
+        self.name, self.made, self.period = f"lines together and one by one: {name}", made, period
+
+    def why_wrong(self, program):
+        octets = header() + b"".join(record(*divmod(moment, SECOND), frame) for moment, frame in self.made())
+        lines = lambda *words: run(program, [words[0], *OPTIONS, *words[1:]], octets)[0].splitlines()
+        blocks = [json.loads(it)["text"] for it in lines("blocks") if b'"kind":"block"' in it]
+        shown, replayed = lines("show"), lines("replay", "--", *blocks) if blocks else []
+        wanted, *others = [self.found(shown, replayed, blocks, size) for size in PARTS]
+        return [f"in parts of {size}: {why}" for size, got in zip(PARTS[1:], others) for why in [unlike(wanted, got)] if why]
+
+    def found(self, shown, replayed, blocks, size):
+        """What is found of lines in parts of so many."""
+        rates, pace = module("reporting.rates"), module("reporting.pace")
+        asked = rates.Asked([str(self.period)])
+        samples = module("reporting.samples").Samples(lambda stream: asked.rate(stream, (), None))
+        paces = {tuple(it.split(",")[:2]): pace.Pace() for it in blocks}
+        station = module("reporting.station").Station(paces, samples)
+        station.see_frames(parts_of(shown, size))
+        samples.end()
+        picture = module("reporting.picture").Picture(station.span)
+        events = module("reporting.events").Events(picture, module("reporting.trip").Trip(None))
+        for block in blocks:
+            picture.lane(tuple(block.split(",")[:2]), block)
+        events.see(parts_of(replayed, size))
+        bursts = [[(lane.name, kind, moment) for lane, kind, moment, _ in it.marks if it.first - 20_000 <= moment <= it.until] for it in picture.bursts]
+        waves = [(it.why, it.layout and it.layout.why, it.periods, it.spans, it.more_spans, it.limits, it.others, it.counted) for it in samples.waves.values()]
+        return plain([station, paces, waves, samples.more, events.blocks, events.listed, events.firsts, events.acts, picture.lanes, bursts, len(events.trip.moments)])
+
+
+# ---- Captures ----------------------------------------------------------------
+
+
+def again(times):
+    """The made station some times."""
+    return lambda: [(moment + 11 * SECOND * at, frame) for at in range(times) for moment, frame in made_station.packets()]
+
+
+def by_chance(seed):
+    """Control blocks whose states, lifetimes, simulation and errors change by chance; packets that are lost, twice, late, without time, or hours off."""
+    def made():
+        chance = random.Random(seed)
+        devices, now, told = [made_station.Device(at) for at in (1, 2, 3, 10, 16, 19)], made_station.START, []
+        for _ in range(2500):
+            now += chance.choice((90, 1_000, 40_000, 40_000, 200_000))
+            now += chance.choice((0,) * 300 + (1_500_000, 7 * SECOND))
+            it = chance.choice(devices)
+            it.sequence += chance.choice((1,) * 60 + (2, 0))
+            if chance.random() < 0.01:
+                it.state, it.sequence, it.value, it.changed = it.state + chance.choice((1, 1, 2)), 0, not it.value, now - 300
+            it.live = 3000 if chance.random() < 0.004 else 1500 if chance.random() < 0.2 else it.live
+            it.sequence = 2**32 - 2 if chance.random() < 0.0005 else min(it.sequence, 2**32 - 1)
+            frame = it.frame(sim=chance.random() < 0.004)
+            moment = now if chance.random() > 0.002 else chance.choice((0, now - 5 * SECOND, now - 2_000))
+            told.append((moment, frame[:40] + b"\x07" + frame[41:] if chance.random() < 0.004 else frame))
+        return told
+    return made
+
+
+def samples_by_chance(seed, a_frame):
+    """Two streams with samples that are lost, late or twice, with other qualities and other smpSynch."""
+    def made():
+        chance = random.Random(seed)
+        quality = lambda: chance.choice((0,) * 400 + (1, 3, 0x2000))
+        sample = lambda at: b"".join(pairs([round(9000 * value)], quality()) for value in (at % 80, -at % 80, 1, 2, 3, 4, 5, at))
+        synch = lambda: chance.choice((2,) * 200 + (1, 0))
+        units = [Unit(name, 0x4000 + at, at, sample, a_frame=a_frame, synch=2) for at, name in enumerate(("S", "T\\"), 1)]
+        told = []
+        for at in range(0, 1600 * a_frame, a_frame):
+            for unit in units:
+                unit.synch = synch()
+                frame, moment = unit.frame(*range(at, at + a_frame)), unit.captured(at + a_frame - 1) + unit.last * 7
+                told += [(moment, frame)] * chance.choice((1,) * 150 + (0, 2))
+            if chance.random() < 0.006 and len(told) > 3:
+                told[-1], told[-3] = (told[-1][0], told[-3][1]), (told[-3][0], told[-1][1])
+        return told
+    return made
+
+
+def cases():
+    yield Alike("the made station", again(2), made_station.PERIOD)
+    yield Alike("a fault", fault_station.packets, fault_station.RATE)
+    yield from (Alike(f"control blocks by chance, {seed}", by_chance(seed), 4000) for seed in range(4))
+    yield from (Alike(f"samples by chance, {seed}, {a_frame} a frame", samples_by_chance(seed, a_frame), 4000) for seed, a_frame in ((1, 1), (2, 8)))
