@@ -12,8 +12,10 @@ from themes.report import OPTIONS
 
 SECOND, PARTS = 10**6, (1, 70, 300, 5000)
 # What of the objects says only how they came to what they say.
-HOW = {"shapes", "owners", "tried", "alone", "skips", "looks", "alike", "shape_of", "flows", "frames", "waiting", "sorts", "state", "since", "told", "until", "number_of",
-       "renewals", "of_block", "excuse", "names", "recent", "now", "head", "rate_of", "clock_of", "line", "samples", "paces", "text", "qualities", "burst"}
+HOW = {"shapes", "owners", "tried", "alone", "skips", "looks", "alike", "shape_of", "flows", "frames", "waiting", "sorts", "state", "since", "told", "until",
+       "renewals", "of_block", "excuse", "names", "recent", "now", "head", "rate_of", "line", "samples", "paces", "text", "qualities", "burst"}
+# Those whose order says nothing.
+UNORDERED = {"senders", "held", "kinds"}
 
 
 def plain(it, held=()):
@@ -32,7 +34,8 @@ def plain(it, held=()):
     if isinstance(it, (set, frozenset)):
         return sorted(map(repr, it))
     names = [*getattr(it, "__dict__", ()), *getattr(it, "__slots__", ())]
-    return [(name, plain(getattr(it, name), held)) for name in names if name not in HOW] if names else None
+    told = [(name, plain(getattr(it, name), held)) for name in names if name not in HOW]
+    return [(name, sorted(value, key=repr) if name in UNORDERED else value) for name, value in told] if names else None
 
 
 def unlike(one, other, path=""):
@@ -64,11 +67,13 @@ class Alike:
 
     def found(self, shown, replayed, blocks, size):
         """What is found of lines in parts of so many."""
-        rates, pace = module("reporting.rates"), module("reporting.pace")
+        rates, pace, looking = module("reporting.rates"), module("reporting.pace"), module("reporting.station")
+        # However often it is in vain, it is tried.
+        looking.SKIPS = looking.LINES = 0
         asked = rates.Asked([str(self.period)])
         samples = module("reporting.samples").Samples(lambda stream: asked.rate(stream, (), None))
         paces = {tuple(it.split(",")[:2]): pace.Pace() for it in blocks}
-        station = module("reporting.station").Station(paces, samples)
+        station = looking.Station(paces, samples)
         station.see_frames(parts_of(shown, size))
         samples.end()
         picture = module("reporting.picture").Picture(station.span)
@@ -93,19 +98,20 @@ def by_chance(seed):
     """Control blocks whose states, lifetimes, simulation and errors change by chance; packets that are lost, twice, late, without time, or hours off."""
     def made():
         chance = random.Random(seed)
-        devices, now, told = [made_station.Device(at) for at in (1, 2, 3, 10, 16, 19)], made_station.START, []
+        devices, now, told = [made_station.Device(at) for at in (1, 2, 3, 4, 5, 10, 13, 16, 17, 19)], made_station.START, []
         for _ in range(2500):
             now += chance.choice((90, 1_000, 40_000, 40_000, 200_000))
             now += chance.choice((0,) * 300 + (1_500_000, 7 * SECOND))
             it = chance.choice(devices)
             it.sequence += chance.choice((1,) * 60 + (2, 0))
-            if chance.random() < 0.01:
+            if chance.random() < 0.006:
                 it.state, it.sequence, it.value, it.changed = it.state + chance.choice((1, 1, 2)), 0, not it.value, now - 300
-            it.live = 3000 if chance.random() < 0.004 else 1500 if chance.random() < 0.2 else it.live
-            it.sequence = 2**32 - 2 if chance.random() < 0.0005 else min(it.sequence, 2**32 - 1)
-            frame = it.frame(sim=chance.random() < 0.004)
-            moment = now if chance.random() > 0.002 else chance.choice((0, now - 5 * SECOND, now - 2_000))
-            told.append((moment, frame[:40] + b"\x07" + frame[41:] if chance.random() < 0.004 else frame))
+            it.live = 3000 if chance.random() < 0.002 else 1500 if chance.random() < 0.01 else it.live
+            it.sequence = 2**32 - 30 if chance.random() < 0.001 else min(it.sequence, 2**32 - 1)
+            live, it.live = it.live, 3000 if chance.random() < 0.01 else it.live
+            frame, it.live = it.frame(sim=chance.random() < 0.002), live
+            moment = now if chance.random() > 0.001 else chance.choice((0, now - 5 * SECOND, now - 2_000))
+            told.append((moment, frame[:40] + b"\x07" + frame[41:] if chance.random() < 0.002 else frame))
         return told
     return made
 

@@ -34,10 +34,10 @@ class Moment:
 
 
 class Clock:
-    """The clock of a control block: the frames whose t calls itself good, the first of each state."""
+    """The clock of a control block, and the packet of its first frame: the frames whose t calls itself good, the first of each state."""
 
-    def __init__(self, source, name):
-        self.source, self.name, self.state, self.moments, self.unsynchronized = source, name, None, [], 0
+    def __init__(self, source, name, first):
+        self.source, self.name, self.first, self.state, self.moments, self.unsynchronized = source, name, first, None, [], 0
         self.most, self.least = None, None
 
     def see(self, found, line, at):

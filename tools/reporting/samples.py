@@ -510,5 +510,7 @@ class Samples:
             return sample_values.of_stream(seen.name, seen.appid, size, are_pairs, self.station)
 
     def end(self):
+        """The end of the capture. The streams are in the order of their first packets."""
+        self.waves = dict(sorted(self.waves.items(), key=lambda it: it[0].first.packet))
         for it in self.waves.values():
             it.end()

@@ -150,6 +150,9 @@ class Station:
         for lines in parts:
             self.see_part(lines)
         self.add_up()
+        # Whatever was looked at together, streams and clocks are in the order of their first packets.
+        self.seen = dict(sorted(self.seen.items(), key=lambda it: it[1].first.packet if it[1].kind == "stream" else 0))
+        self.clocks = dict(sorted(self.clocks.items(), key=lambda it: it[1].first))
         times = self.times
         self.first, self.last = times.first and place(times.first), times.last and place(times.last)
         self.span = times.span
@@ -302,7 +305,7 @@ class Station:
         if not record["simulation"]:
             own = record["appid"], record["gocbRef"], record["source"]
             sort.sequence, sort.pace = self.sequences.of(record), self.paces.get((record["appid"], record["gocbRef"]))
-            sort.clock = self.clocks.get(own) or self.clocks.setdefault(own, Clock(record["source"], record["gocbRef"]))
+            sort.clock = self.clocks.get(own) or self.clocks.setdefault(own, Clock(record["source"], record["gocbRef"], int(found[1])))
         return sort
 
     def fault(self, found, _line, _now):

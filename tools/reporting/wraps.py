@@ -97,6 +97,7 @@ class Wraps:
             if block.wrap:
                 block.wrap.lives_until = block.lives_until
                 block.wrap.is_whole = block.wrap.is_whole and last < block.lives_until
+        self.found.sort(key=lambda it: it.first.packet)
         numbers = collections.Counter(it.sender for it in self.found)
         for it in self.found:
             it.is_whole = it.is_whole and numbers[it.sender] == 1
