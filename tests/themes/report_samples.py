@@ -3,8 +3,10 @@ good, and when the fault began."""
 import functools
 import math
 import re
+import types
 
 from helpers import fault_station
+from helpers.asked_tools import module
 from helpers.fault_station import (BEGIN, DELAY, FAULT, FAULT_AT, FIRST, LOST, OPEN_AT, RATE, SECOND, TRIP_AT, Unit, capture, events, line_values,
                                    pairs,
                                    sample_of_line, steps, units)
@@ -236,6 +238,8 @@ class Drawn(Each):
             off = max(beyond(value, near(at, (time / 1000 + zero) * RATE)) / (3000, 100)[at // 4] for time, value in points)
             yield from [] if len(points) > 20 and off < 0.02 else [f"line {at + 1} around the trip is off by {off:.3f} of its scale"]
         for at, points in enumerate(read_lines(found[f"MU01: {WHOLE}"])):
+            begun = points[0][0] - 0.5 / fault_station.FREQUENCY
+            yield from [] if abs(begun) < 0.002 else [f"the RMS of line {at + 1} begins at {begun:.4f} s, and not with the first packet"]
             for time, since in ((0.2, 0), (0.33, FAULT + 80)):
                 square, value = sum(sent(at, it) ** 2 for it in range(since, since + 80)) / 80, on_line(points, time)
                 if abs(value - math.sqrt(square)) > 0.01 * (2500, 80)[at // 4]:
@@ -253,6 +257,60 @@ class Drawn(Each):
             (x,) = [int(re.match(r"M(\d+) ", it.get("d"))[1]) for it in figure.iter("path") if it.get("class") == kind]
             if abs(t0 + (x - x0) * (t1 - t0) / (x1 - x0) - time / 1000) > 1.5:
                 yield f"the {kind} is drawn {t0 + (x - x0) * (t1 - t0) / (x1 - x0):.1f} ms from the trip"
+
+
+class Scaled(Each):
+    """A channel with a scale, an offset and a unit of its own is drawn by these: each sample, and the RMS of a period."""
+
+    def wrong(self, page, _octets):
+        found, zero = figures(page), (TRIP_AT - BEGIN - DELAY) / SECOND
+        own = lambda values: [2 * it + 5000 for it in values]
+        around, whole = (read_lines(found[f"MU01: {what}"]) for what in (AROUND, WHOLE))
+        for at, points in enumerate(around):
+            values = lambda time: near(at, (time / 1000 + zero) * RATE)
+            off = max(beyond(value, own(values(time)) if at == 0 else values(time)) / (11_000, 3000, 3000, 3000, 100, 100, 100, 100)[at]
+                      for time, value in points)
+            yield from [] if off < 0.02 else [f"line {at + 1} around the trip is off by {off:.3f} of its scale"]
+        value, square = on_line(next(whole), 0.33), sum(it * it for it in own(sent(0, it) for it in range(FAULT + 80, FAULT + 160))) / 80
+        yield from [] if abs(value - math.sqrt(square)) < 60 else [f"the RMS is {value:.1f}, and not {math.sqrt(square):.1f}"]
+        units = [it.text for it in found[f"MU01: {AROUND}"].iter("text") if it.get("class") == "lane"]
+        yield from [] if units == ["kA", "A", "kV"] else [f"the units are {units}"]
+
+
+class Values:
+    """The RMS and the greatest value of a channel are those of its values: each integer times the scale, plus the offset. One that is invalid is not the
+    greatest of its channel."""
+
+    name = "samples on a page: values of channels with an offset"
+
+    def why_wrong(self, _program):
+        return self.why_offset_wrong() + self.why_invalid_wrong()
+
+    def why_invalid_wrong(self):
+        wave = module("reporting.samples").Wave(None, types.SimpleNamespace(has_trips=True))
+        wave.size, wave.rate, wave.frequency, wave.start, wave.firsts, wave.places = 24, 8, 1, 0, [0], [(None, BEGIN, 1)]
+        wave.begin(module("sample_values").pairs(3, "3I"))
+        wave.see_period(b"".join(pairs([9000 if at == 3 else at], at == 3) + pairs([-20]) + pairs([7000 if at == 5 else 1]) for at in range(8)))
+        got = [round(wave.greatest(at), 9) for at in range(3)]
+        return [] if got == [0.007, 0.02, 7] else [f"the greatest values are {got}"]
+
+    def why_offset_wrong(self):
+        values, samples = module("sample_values"), module("reporting.samples")
+        for a, b, column in ((2.0, 0.0, [3, 4]), (-2.0, 5.0, [1, 2, 9]), (0.5, -7.0, [-40, 0, 4]), (1.0, 1.0, [-1, -1])):
+            wave, channel = samples.Wave.__new__(samples.Wave), values.Channel("X", "i", a=a, b=b)
+            wave.are_floats, wave.channels, wave.limits = False, [channel], [[min(column), max(column)]]
+            told = [a * it + b for it in column]
+            wanted, got = (math.sqrt(sum(it * it for it in told) / len(told)), max(map(abs, told))), (wave.rms(channel, column), wave.greatest(0))
+            if any(abs(one - other) > 1e-9 for one, other in zip(wanted, got)):
+                return [f"{a} times {column} plus {b}: wanted {wanted}, got {got}"]
+        return []
+
+
+def scd_of_own():
+    """An SCL file in which the first current of MU01 has a scale, an offset and a unit of its own."""
+    told = ('<DOI name="AmpSv"><SDI name="sVC"><DAI name="scaleFactor"><Val>0.002</Val></DAI><DAI name="offset"><Val>5000</Val></DAI></SDI>'
+            '<SDI name="units"><DAI name="multiplier"><Val>k</Val></DAI></SDI></DOI>')
+    return fault_station.scd().replace(f"{NODE}</LN>", f"{NODE}{told}</LN>", 1)
 
 
 def time_labels(figure):
@@ -349,11 +407,18 @@ class Spans(Each):
     """Spans by channel: one that changes its quality is two, one that a gap parts is two, and `derived` alone is good."""
 
     wanted = [("I2", "invalid", "3"), ("I2", "questionable overflow", "2"), ("U4", "test derived", "40"), ("U4", "test derived", "32")]
+    # The first and the last sample of each.
+    samples = [(100, 102), (103, 104), (760, 799), (808, 839)]
 
     def wrong(self, page, _octets):
         got = [tuple(row[1:4]) for row in page.rows(SPANS)]
         if got != self.wanted:
             yield f"the spans are {got}"
+        unit, times = unit_of(qualities), sorted(moment for moment, _ in self.sent())
+        packets = [[times.index(unit.captured(it // 8 * 8 + 7)) + 1 for it in ends] for ends in self.samples]
+        got = [[int(it) for it in re.findall(r"\d+", row[-1])] for row in page.rows(SPANS)]
+        wanted = [[first, *([last] if last != first else [])] for first, last in packets]
+        yield from [] if got == wanted else [f"the spans are in packets {got}, and not {wanted}"]
 
 
 def qualities(at):
@@ -498,6 +563,8 @@ def cases():
     yield Pictures("pictures, with an SCL file", sent_of(*units()), scd=fault_station.scd())
     yield Pictures("pictures, as 9-2LE", sent_of(*units()), "--trip", trip)
     yield Drawn("values of lines", sent_of(*units()), scd=fault_station.scd())
+    yield Values()
+    yield Scaled("a channel with an offset", sent_of(*units()), scd=scd_of_own())
     yield Labels("names and scales", sent_of(*units()), scd=fault_station.scd())
     yield Labels("names and scales of long names in one unit", sent_of(*units()), scd=long_names())
     yield LongGap("a gap of five periods", sent_of(unit_of(sample_of_line, lost=range(800, 1200))), "--trip",

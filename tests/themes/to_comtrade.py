@@ -1,6 +1,8 @@
 """tools/to_comtrade: what a reader that shares nothing with it finds in its files is what was put into a capture, and what is refused."""
+import fractions
 import gzip
 import json
+import math
 import os
 import pathlib
 import resource
@@ -166,6 +168,8 @@ class Moved(Each):
             yield from differs(f"values in {form}", [None if value is None else round(value, 6) for value in wanted], found.analog[0].stored)
             yield from differs(f"negative values in {form}", [value and -value for value in wanted], found.analog[1].stored)
             yield from differs("stamps", [(2 * at * SECOND + rate) // (2 * rate) for at in range(len(wanted))], found.stamps)
+            first = held[0][0] - (order[0] - least) * SECOND / rate
+            yield from [] if abs(found.first - first) <= 1 else [f"the first sample is at {found.first}, and not at {first}"]
         wrote, _, _ = run(program, ["losses", "--capture", "--json", "--period", f"{rate}"], capture(held))
         told = json.loads(wrote.splitlines()[-1])
         line = f"{told['late']:,} came late, {told['repeated']:,} were copies"
@@ -240,6 +244,7 @@ class AtRate(Each):
         found = Made(program, capture(it.packets()), "--period", f"{rate}", scd=fault_station.scd()).recording
         got = found.last, found.rate, found.frequency, found.multiplier
         yield from differs("samples, rate, frequency, multiplier", (samples, rate, frequency, 1), got)
+        yield from differs("the first sample, to the nearest microsecond", math.floor(exact[0] + fractions.Fraction(1, 2)), found.first)
         off = max(range(samples), key=lambda at: abs(found.at(at) - exact[at]))
         if abs(found.at(off) - exact[off]) > 1:
             yield f"sample {off} is at {found.at(off)}, and not at {float(exact[off])}"
