@@ -1,8 +1,8 @@
 -- What is left of a frame where tags are taken out until there is none is what is computed.
-use Rattle.std.proofs.Common.{◌≡◌, ◌+◌, ◌-◌, ◌≤◌, ◌<◌, ◌∙◌, ℕ, zero, suc, List, [], ◌++◌, length, take, drop, Option, Some, None, refl, sym, ap, subst, arith, length-append, length-drop}
+use Rattle.std.proofs.Common.{◌≡◌, ◌+◌, ◌≤◌, ◌<◌, ◌∙◌, ℕ, zero, suc, List, length, take, drop, Option, Some, None, refl, sym, ap, subst, arith, length-append, length-drop}
 use Rattle.std.specs.Prelude.{option_map}
 use Rattle.std.specs.Option.{option_map_or}
-use Rattle.std.proofs.lemmas.List.{length-take, length-take-le}
+use Rattle.std.proofs.lemmas.List.{length-take-le}
 use Rattle.unwrap_core.specs.Laws.{BareIsLeft, EachIsUnwrapped, TakenOutIsOne, UnwrappedIsBare, UnwrappedIsOne}
 use Rattle.unwrap_core.specs.Tags.{without}
 use Rattle.unwrap_core.specs.Unwrapped.{IsBare, TakesOut, Unwraps, bare, hsr_tag, hsr_tag_behind, outer_tag, tag_in, tag_out, taken, unwrapped, unwrapped_within}

@@ -1,5 +1,5 @@
 -- What the definitions say together.
-use Rattle.std.specs.Prelude.{◌≡◌, ◌≤◌, ℕ, List, length}
+use Rattle.std.specs.Prelude.{◌≡◌, ℕ, List}
 use Rattle.unwrap_core.specs.Unwrapped.{IsBare, TakesOut, Unwraps, unwrapped}
 
 -- what is left of a frame where tags are taken out until there is none is one, and it is computed

@@ -1,5 +1,5 @@
 -- What stands behind the name of a subcommand without words of its own: options, none of them twice, and then nothing or the mark.
-use Rattle.std.proofs.Common.{◌≡◌, ◌&&◌, ◌||◌, ◌∙◌, ◌==◌, ◌⊎◌, ℕ, Bool, true, false, true≢false, not, List, [], ◌∷◌, ◌++◌, Option, Some, None, is_some, inl, inr, refl, sym, ap, subst, arith, cond, length, map, take_all, eqb-true}
+use Rattle.std.proofs.Common.{◌≡◌, ◌||◌, ◌∙◌, ◌==◌, ◌⊎◌, ℕ, Bool, true, false, true≢false, List, [], ◌∷◌, ◌++◌, Option, Some, None, inl, inr, refl, sym, ap, subst, arith, cond, length, map, take_all, eqb-true}
 use Rattle.std.specs.Option.{option_map_or}
 use Rattle.std.specs.Prelude.{codes, fold, slice_get, if◌then◌else◌}
 use Rattle.std.specs.List.{before_first, list_any, position_or_len}

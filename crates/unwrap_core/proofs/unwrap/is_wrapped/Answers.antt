@@ -1,4 +1,4 @@
-use Rattle.std.proofs.Common.{◌≡◌, ◌∙◌, ℕ, Option, Some, None, false, is_some, ap, sym, refl}
+use Rattle.std.proofs.Common.{◌≡◌, ◌∙◌, Option, Some, None, false, is_some, ap, sym, refl}
 use Rattle.std.specs.Prelude.{option_map}
 use Rattle.unwrap_core.specs.Unwrapped.{tag_in}
 use Rattle.unwrap_core.proofs.UnwrappedEvents.{event_alone}
