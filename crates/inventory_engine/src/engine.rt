@@ -123,7 +123,8 @@ pub fn blocks_over<
     W: Sink,
 >(alloc: A, style: Style, events: I, writer: &mut W) -> Stopped<I, F>
     requires works { W.failed writer.old ≡ false }
-    ensures text { OfKind (AreBlocksTexts {A = A}) (λ texts. RunsOver (reader_of I.answers I.number F.refused F.failed) (over_in style (exactly_each texts) (fault_text F.last_line F.last_object)) events result (W.contents writer.old) (W.contents writer.new)) }
+    ensures text { OfKind (AreBlocksTexts {A = A}) (λ texts. RunsOver (reader_of I.answers I.number F.refused F.failed) (over_in style (exactly_each texts) (fault_text F.last_line F.last_object))
+        events result (W.contents writer.old) (W.contents writer.new)) }
     ensures fault { W.failed writer.new ≡ is_write_fault result.ending }
 {
     let listing = Listing {

@@ -62,7 +62,8 @@ allowed_by (losses period) it form = absurd it
 
 -- ---- what is left
 
--- What a run over events leaves: what was untouched where nothing was read; by which fault of the input, where that may be written of an event in each form; and by which fault where losses are told of streams with so many samples a second, if that is given.
+-- What a run over events leaves: what was untouched where nothing was read; by which fault of the input, where that may be written of an event in each form;
+-- and by which fault where losses are told of streams with so many samples a second, if that is given.
 pub record Left (F : Type 0) : Type 1 where
   pub untouched : Type 0
   pub text : Option F → (Form → EventAllows Global) → Type 0

@@ -1,5 +1,6 @@
 -- The command line whole: the task and the options that its words ask for, and why words may be refused.
-use Rattle.std.specs.Prelude.{◌≡◌, ◌&&◌, ◌||◌, ◌⊎◌, ◌==◌, ℕ, slice_get, true, false, not, Bool, List, [], ◌∷◌, ◌++◌, map, fold, filter, length, Option, Some, None, Result, Ok, Err, MatchResult, is_some, option_and_then, option_map, codes, if◌then◌else◌}
+use Rattle.std.specs.Prelude.{◌≡◌, ◌&&◌, ◌||◌, ◌⊎◌, ◌==◌, ℕ, slice_get, true, false, not, Bool, List, [], ◌∷◌, ◌++◌, map, fold, filter, length}
+use Rattle.std.specs.Prelude.{Option, Some, None, Result, Ok, Err, MatchResult, is_some, option_and_then, option_map, codes, if◌then◌else◌}
 use Rattle.std.specs.Global.{Global}
 use Rattle.std.specs.List.{list_all, list_any}
 use Rattle.std.specs.Option.{option_map_or}

@@ -7,7 +7,8 @@ ghost use Rattle.clap.specs.declared.error.kind.ErrorKind.TheVariants.{OutOfMemo
 ghost use Rattle.words_core.specs.CommandLine.{AnswersBadBlock, AnswersTask, Asked, HasPeriod, IsNoMistake};
 ghost use Rattle.words_core.specs.CommandLine.{asked_by, bare_program, block_rule, id_rule, is_plain, losing, losses_asked, name_of, period_rule, readers, replay_of, replaying, stream_period_rule, task_asked, watch, watch_asked, watching};
 ghost use Rattle.words_core.specs.computed.PrivateCalls.{AnswersWords, MayAnswer};
-ghost use Rattle.words_core.specs.RequestLine.{AnswersRequest, Asks, AsksWith, MayRefuseRequest, RefusesBlock, file_asked, file_of_words, is_reading, offered, request_asked, request_faults, request_line, request_of_words, takes_request, task_of_words};
+ghost use Rattle.words_core.specs.RequestLine.{AnswersRequest, Asks, AsksWith, MayRefuseRequest, RefusesBlock, file_asked, file_of_words};
+ghost use Rattle.words_core.specs.RequestLine.{is_reading, offered, request_asked, request_faults, request_line, request_of_words, takes_request, task_of_words};
 ghost use Rattle.words_core.specs.computed.OfferedLine.{IsApp, IsExclusion, IsLocal, MayGrant};
 
 use crate::option_words::{Made, Options, options_met, with_arg, with_offering};
@@ -98,35 +99,53 @@ const EXCLUDED: &str = "the argument '--time' cannot be used with '--json'";
 
 // What the help of `show` and of `blocks` ends with: they find nothing to be told by a status.
 const SHOW_MORE: &str =
-    "Times in a list are microseconds where its first line is V2, else milliseconds; in the output they are always microseconds.\nExit status: 0 done, 2 wrong arguments, 3 an error in the input, 4 reading or writing failed, 5 out of memory.\nMore: man goose";
+    "Times in a list are microseconds where its first line is V2, else milliseconds; in the output they are always microseconds.\n\
+     Exit status: 0 done, 2 wrong arguments, 3 an error in the input, 4 reading or writing failed, 5 out of memory.\n\
+     More: man goose";
 
 // What the help of `publish` ends with.
 const PUBLISH_MORE: &str =
-    "Times in the input are microseconds where its first line is V2, else milliseconds; in the output they are always microseconds.\nExit status: 0 done, 2 wrong arguments, 3 an error in the input, 4 reading or writing failed, 5 out of memory.\nMore: man goose";
+    "Times in the input are microseconds where its first line is V2, else milliseconds; in the output they are always microseconds.\n\
+     Exit status: 0 done, 2 wrong arguments, 3 an error in the input, 4 reading or writing failed, 5 out of memory.\n\
+     More: man goose";
 
 // What the help of `check` ends with: an encoding is no error.
 const CHECK_MORE: &str =
-    "A line fault is an error of the frame. A line not-written is a note and no error: the frame is valid, but encoded otherwise than rewrite would write it. A line destination is a note too: the frame is sent to another address than the standards recommend.\n\nTimes in a list are microseconds where its first line is V2, else milliseconds.\nExit status: 0 nothing to note, 1 a line was written for some frame, 2 wrong arguments, 3 an error in the input, 4 reading or writing failed, 5 out of memory.\nMore: man goose";
+    "A line fault is an error of the frame. A line not-written is a note and no error: the frame is valid, but encoded otherwise than rewrite would write it. \
+     A line destination is a note too: the frame is sent to another address than the standards recommend.\n\n\
+     Times in a list are microseconds where its first line is V2, else milliseconds.\n\
+     Exit status: 0 nothing to note, 1 a line was written for some frame, 2 wrong arguments, 3 an error in the input, 4 reading or writing failed, 5 out of memory.\n\
+     More: man goose";
 
 // What the help of `rewrite` ends with.
 const REWRITE_MORE: &str =
-    "Times in the input are microseconds where its first line is V2, else milliseconds; in the output they are always microseconds.\nExit status: 0 done, 1 some frame could not be written anew, 2 wrong arguments, 3 an error in the input, 4 reading or writing failed, 5 out of memory.\nMore: man goose";
+    "Times in the input are microseconds where its first line is V2, else milliseconds; in the output they are always microseconds.\n\
+     Exit status: 0 done, 1 some frame could not be written anew, 2 wrong arguments, 3 an error in the input, 4 reading or writing failed, 5 out of memory.\n\
+     More: man goose";
 
 // What the help of `replay` ends with.
 const REPLAY_MORE: &str =
-    "Times in a list are microseconds where its first line is V2, else milliseconds.\nExit status: 0 done, 2 wrong arguments, 3 an error in the input, or two blocks have one APPID and gocbRef, 4 reading or writing failed, 5 out of memory.\nMore: man goose";
+    "Times in a list are microseconds where its first line is V2, else milliseconds.\n\
+     Exit status: 0 done, 2 wrong arguments, 3 an error in the input, or two blocks have one APPID and gocbRef, 4 reading or writing failed, 5 out of memory.\n\
+     More: man goose";
 
 // What the help of `watch` ends with.
 const WATCH_MORE: &str =
-    "Times in a list are microseconds where its first line is V2, else milliseconds.\nExit status: 0 each line says first or next, 1 some line says another word, 2 wrong arguments, 3 an error in the input, 4 reading or writing failed, 5 out of memory.\nMore: man goose";
+    "Times in a list are microseconds where its first line is V2, else milliseconds.\n\
+     Exit status: 0 each line says first or next, 1 some line says another word, 2 wrong arguments, 3 an error in the input, 4 reading or writing failed, 5 out of memory.\n\
+     More: man goose";
 
 // What the help of `losses` ends with.
 const LOSSES_MORE: &str =
-    "Times in a list are microseconds where its first line is V2, else milliseconds.\nExit status: 0 nothing is missing, 1 something is missing, late, silent, restarted or out of range, 2 wrong arguments, 3 an error in the input, 4 reading or writing failed, 5 out of memory.\nMore: man goose";
+    "Times in a list are microseconds where its first line is V2, else milliseconds.\n\
+     Exit status: 0 nothing is missing, 1 something is missing, late, silent, restarted or out of range, 2 wrong arguments, 3 an error in the input, 4 reading or writing failed, 5 out of memory.\n\
+     More: man goose";
 
 // What the help of `import` ends with: a capture has a unit of its own.
 const IMPORT_MORE: &str =
-    "Times in the output are microseconds, whatever the capture has. A record that no list can hold is left out, and a comment says so.\nExit status: 0 done, 1 a record was left out, 2 wrong arguments, 3 an error in the input, 4 reading or writing failed, 5 out of memory.\nMore: man goose";
+    "Times in the output are microseconds, whatever the capture has. A record that no list can hold is left out, and a comment says so.\n\
+     Exit status: 0 done, 1 a record was left out, 2 wrong arguments, 3 an error in the input, 4 reading or writing failed, 5 out of memory.\n\
+     More: man goose";
 
 // The program before its subcommands, one of which must be named.
 fn program<'a>(alloc: Global) -> Command<'a>
@@ -138,7 +157,10 @@ fn program<'a>(alloc: Global) -> Command<'a>
             "Example: goose blocks --capture < FILE.pcapng\nThen: goose replay --capture 'BLOCK' < FILE.pcapng, with a BLOCK that this lists",
         )
         .after_help(
-            "Run goose COMMAND --help for an example of each command.\nTimes in lists and scripts are microseconds where the first line is V2, else milliseconds; what is written is always in microseconds.\nExit status: 0 done, 1 something was found, 2 wrong arguments, 3 an error in the input, 4 reading or writing failed, 5 out of memory.\nMore: man goose",
+            "Run goose COMMAND --help for an example of each command.\n\
+             Times in lists and scripts are microseconds where the first line is V2, else milliseconds; what is written is always in microseconds.\n\
+             Exit status: 0 done, 1 something was found, 2 wrong arguments, 3 an error in the input, 4 reading or writing failed, 5 out of memory.\n\
+             More: man goose",
         )
         .about(
             "Reads recorded GOOSE and Sampled Values frames from standard input and tells what they say",
@@ -188,7 +210,8 @@ fn block_words<'a>(alloc: Global) -> Arg<'a>
     ensures local { result.global ≡ false }
 {
     Arg::new(alloc, "BLOCK").required(true).num_args(1..).help(
-        "A control block: APPID,gocbRef,datSet,goID,confRev,entries, as 0001,IED1LD/LLN0$GO$gcb,IED1LD/LLN0$ds,,1,2. APPID has 4 hexadecimal digits; an empty goID is not compared; entries is the number of members. Put it in single quotes: $ names a variable in a shell",
+        "A control block: APPID,gocbRef,datSet,goID,confRev,entries, as 0001,IED1LD/LLN0$GO$gcb,IED1LD/LLN0$ds,,1,2. \
+         APPID has 4 hexadecimal digits; an empty goID is not compared; entries is the number of members. Put it in single quotes: $ names a variable in a shell",
     )
 }
 

@@ -245,7 +245,8 @@ pub fn watch_to_stop<A: Allocator + Copy, R: Source, W: Sink>(
     requires works { W.failed writer.old ≡ false }
     requires period { IsPeriod period }
     ensures text { (given : List ℕ) × GivesOctets (R.left reader) (item_state R.left R.ending result.reader).left given
-        × OfKind (IsWatchText {A = A} period id.now) (λ t. Leaves (list_input event_rules First) (exactly t) result.ending result.fault (item_state R.left R.ending result.reader).ending given (W.contents writer.old) (W.contents writer.new)) }
+        × OfKind (IsWatchText {A = A} period id.now) (λ t. Leaves (list_input event_rules First) (exactly t) result.ending result.fault (item_state R.left R.ending result.reader).ending
+        given (W.contents writer.old) (W.contents writer.new)) }
     ensures read_fault { result.ending ≡ Ending.ReadFault → (item_state R.left R.ending result.reader).ending ≡ InputEnd.Failed }
     ensures fault { W.failed writer.new ≡ is_write_fault result.ending }
 {
@@ -277,7 +278,8 @@ pub fn watch_over<
 >(alloc: A, style: Style, events: I, period: u32, id: &[u8], writer: &mut W) -> Stopped<I, F>
     requires works { W.failed writer.old ≡ false }
     requires period { IsPeriod period }
-    ensures text { OfKind (AreWatchTexts {A = A} period id.now) (λ texts. RunsOver (reader_of I.answers I.number F.refused F.failed) (over_in style (exactly_each texts) (fault_text F.last_line F.last_object)) events result (W.contents writer.old) (W.contents writer.new)) }
+    ensures text { OfKind (AreWatchTexts {A = A} period id.now) (λ texts. RunsOver (reader_of I.answers I.number F.refused F.failed) (over_in style (exactly_each texts) (fault_text F.last_line F.last_object))
+        events result (W.contents writer.old) (W.contents writer.new)) }
     ensures fault { W.failed writer.new ≡ is_write_fault result.ending }
 {
     match Watch::new(period) {

@@ -326,7 +326,8 @@ pub fn check_over<
     W: Sink,
 >(alloc: A, style: Style, events: I, writer: &mut W) -> Stopped<I, F>
     requires works { W.failed writer.old ≡ false }
-    ensures text { RunsOver (reader_of I.answers I.number F.refused F.failed) (over_in style (λ form. exactly_event (check_event_in {A = A} form)) (fault_text F.last_line F.last_object)) events result (W.contents writer.old) (W.contents writer.new) }
+    ensures text { RunsOver (reader_of I.answers I.number F.refused F.failed) (over_in style (λ form. exactly_event (check_event_in {A = A} form)) (fault_text F.last_line F.last_object))
+        events result (W.contents writer.old) (W.contents writer.new) }
     ensures fault { W.failed writer.new ≡ is_write_fault result.ending }
 {
     let engine = OfEvents {
