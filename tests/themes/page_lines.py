@@ -7,13 +7,14 @@ from helpers import fault_station, made_station
 from helpers.asked_tools import module
 from helpers.capture_parts import header, record
 from helpers.fault_station import Unit, pairs
+from helpers.frames import asdu, element, with_asdus
 from helpers.harness import run
 from themes.report import OPTIONS
 
 SECOND, PARTS = 10**6, (1, 70, 300, 5000)
 # What of the objects says only how they came to what they say.
 HOW = {"shapes", "owners", "tried", "alone", "skips", "looks", "alike", "shape_of", "flows", "frames", "waiting", "sorts", "state", "since", "told", "until",
-       "renewals", "of_block", "excuse", "names", "recent", "now", "head", "rate_of", "line", "samples", "paces", "text", "qualities", "burst"}
+       "renewals", "of_block", "excuse", "steps", "text_before", "names", "recent", "now", "head", "rate_of", "line", "samples", "paces", "text", "qualities", "burst"}
 # Those whose order says nothing.
 UNORDERED = {"senders", "held", "kinds"}
 
@@ -68,8 +69,9 @@ class Alike:
     def found(self, shown, replayed, blocks, size):
         """What is found of lines in parts of so many."""
         rates, pace, looking = module("reporting.rates"), module("reporting.pace"), module("reporting.station")
-        # However often it is in vain, it is tried.
+        # However often it is in vain, it is tried; what changed is held of states that come again, but one by one of the last alone.
         looking.SKIPS = looking.LINES = 0
+        module("reporting.events").MOST_TOLD = 0 if size == 1 else 8
         asked = rates.Asked([str(self.period)])
         samples = module("reporting.samples").Samples(lambda stream: asked.rate(stream, (), None))
         paces = {tuple(it.split(",")[:2]): pace.Pace() for it in blocks}
@@ -116,6 +118,28 @@ def by_chance(seed):
     return made
 
 
+class Switches(made_station.Device):
+    """A control block of three booleans, each with its quality."""
+
+    held = b"".join(b"\x83\x01\x00\x84\x03\x03\x00\x00" for _ in range(3))
+
+    def members(self):
+        return [self.held[at:at + 3 + 2 * (at % 8 > 0)] for at in (0, 3, 8, 11, 16, 19)]
+
+
+def states_by_chance(seed):
+    """States of which some come again and again, behind others each time, and of which some have the bit test."""
+    def made():
+        chance, devices = random.Random(seed), [Switches(at) for at in (1, 2, 3)]
+        states = [b"".join(b"\x83\x01" + chance.choice((b"\x00", b"\xff")) + b"\x84\x03\x03\x00" + chance.choice((b"\x00", b"\x10")) for _ in range(3))
+                  for _ in range(6)]
+        for at in range(900):
+            it, now = chance.choice(devices), made_station.START + at * 20_000
+            it.state, it.sequence, it.held, it.changed = it.state + 1, 0, chance.choice(states), now - 300
+            yield now, it.frame()
+    return lambda: list(made())
+
+
 def samples_by_chance(seed, a_frame):
     """Two streams with samples that are lost, late or twice, with other qualities and other smpSynch."""
     def made():
@@ -136,8 +160,71 @@ def samples_by_chance(seed, a_frame):
     return made
 
 
+def of_one(numbers, change=lambda it, at: 0, step=10_000):
+    """The frames of one control block with these sqNums; what is changed with each also answers by how much it comes later, or earlier."""
+    it = made_station.Device(3)
+    for at, it.sequence in enumerate(numbers):
+        moment = made_station.START + at * step + change(it, at)
+        yield moment, it.frame()
+
+
+def in_turns(numbers, change):
+    """The same with what changes after each hundred frames, and comes back after the next."""
+    return lambda: list(of_one(numbers, lambda it, at: change(it, at // 100 % 2 == 1)))
+
+
+def live_longer(it, is_other):
+    """A lifetime of other digits."""
+    it.live = 15000 if is_other else 1500
+    return 0
+
+
+def come_earlier():
+    """Frames whose times are before that of their state's first one, by less than a second."""
+    return list(of_one(range(100, 900), lambda it, at: -900_000 if at >= 300 else 0, 1000))
+
+
+def rolled_over(greatest):
+    """sqNum rolls over: the numbers that come then have come before."""
+    return lambda: list(of_one([*range(1, 200), *range(greatest - 99, greatest + 1), *range(1, 200)]))
+
+
+def last_state(greatest):
+    """The last stNum, of which a frame is lost before the last one of seventy lines; behind two hundred frames more the first stNum."""
+    def change(it, at):
+        it.state, it.changed = (1, made_station.START + 3_500_000 - 300) if at >= 350 else (greatest, it.changed)
+        return 0
+    return lambda: list(of_one([*range(100, 309), *range(310, 451), *range(100)], change))
+
+
+def samples_in_turns(change, svids=(b"S",)):
+    """A stream, or several in each frame; what changes after each hundred frames comes back after the next. It answers by how much they come later."""
+    def made():
+        for at in range(900):
+            fields, later = change(at, at // 100 % 2 == 1)
+            sample = pairs([round(9000 * (at % 80 + channel)) for channel in range(8)])
+            frame = with_asdus(*(asdu(sv_id=element(0x80, it), smp_cnt=element(0x82, (1000 + at).to_bytes(2, "big")),
+                                      **{"sample": element(0x87, sample), **fields}) for it in svids))
+            yield made_station.START + at * 250 + later, frame
+    return lambda: list(made())
+
+
+def odd_captures():
+    """What no longer is as it was when a sort of frames was known, and comes back."""
+    yield Alike("a lifetime that changes and comes back", in_turns(range(100, 900), live_longer), 4000)
+    yield Alike("times before a state's first frame", come_earlier, 4000)
+    yield Alike("sqNum that rolls over", rolled_over(2**32 - 1), 4000)
+    yield Alike("the last stNum, and a lost frame", last_state(2**32 - 1), 4000)
+    other_clock = lambda at, is_other: ({"smp_synch": element(0x85, b"\x0a" if is_other else b"\x02")}, 0)
+    yield Alike("smpSynch that changes and comes back", samples_in_turns(other_clock), 4000)
+    yield Alike("samples whose times go back", samples_in_turns(lambda at, _: ({}, -300_000 if at % 90 > 80 else 0)), 4000)
+    yield Alike("two streams a frame", samples_in_turns(lambda at, _: ({}, 0), (b"S", b"T")), 4000)
+
+
 def cases():
+    yield from odd_captures()
     yield Alike("the made station", again(2), made_station.PERIOD)
     yield Alike("a fault", fault_station.packets, fault_station.RATE)
     yield from (Alike(f"control blocks by chance, {seed}", by_chance(seed), 4000) for seed in range(4))
+    yield from (Alike(f"states by chance, {seed}", states_by_chance(seed), 4000) for seed in range(2))
     yield from (Alike(f"samples by chance, {seed}, {a_frame} a frame", samples_by_chance(seed, a_frame), 4000) for seed, a_frame in ((1, 1), (2, 8)))

@@ -85,6 +85,11 @@ def recorded():
     both = section() + interface() + interface(link=113) + b"".join(packet(at, it) for at, it in good) + packet(good[-1][0], good[0][1], which=1)
     yield Judged("one packet of the interface any", both, {"Capture": (AMBER,
         f"1 packet of Linux cooked (LINUX_SLL), from packet {len(good) + 1} on")})
+    for order in ((2, 1, 1), (1, 2, 2)):
+        several = section() + interface() + interface(link=113) * 2 + b"".join(packet(at, it) for at, it in good)
+        several += b"".join(packet(good[-1][0], good[0][1], which=it) for it in order)
+        yield Judged(f"packets of two interfaces any, {order[0]} first", several, {"Capture": (AMBER,
+            f"3 packets of Linux cooked (LINUX_SLL), from packet {len(good) + 1} on")})
     for name, head, what in (("an HSR ring", "892f00400001", "892f (HSR)"), ("frames with an outer tag", "88a80005", "88a8"),
                              ("frames of MACsec", "88e5000000000001", "88e5 (MACsec)"), ("frames with an old outer tag", "91000005", "9100"),
                              ("frames with a tag in a tag", "8100000581000006", "8100 (a tag in a tag)"),
@@ -111,6 +116,8 @@ def dropped():
     for name, options in (("card", option(5, (5).to_bytes(8, "little"))), ("system", option(7, (5).to_bytes(8, "little"))),
                           ("card and the system", option(5, (2).to_bytes(8, "little")) + option(7, (3).to_bytes(8, "little")))):
         yield Judged(f"packets that the {name} dropped", octets + block(5, fours("little", 0, 0, 7) + options), told)
+    yield Judged("one packet that was dropped", octets + block(5, fours("little", 0, 0, 7) + option(5, (1).to_bytes(8, "little"))), {
+        "Capture": (AMBER, "the recorder dropped 1 packet at")})
     yield Judged("statistics of which the last counts", octets + b"".join(
         block(5, fours("little", 0, 0, 7) + option(5, it.to_bytes(8, "little"))) for it in (3, 5)), told)
     yield Judged("statistics in which nothing was dropped", octets + statistics() + block(5, fours("little", 0, 0, 7) + option(5, bytes(8))), {})
@@ -380,8 +387,10 @@ def simulation():
     early = changed(lambda it: it.device == 2 and not later(2)(it), commissioning=True)
     yield Judged("a block that needed commissioning", capture(packets(early)), {"Simulation": (RED, "ndsCom is true: D2LD0", "to packet"),
                                                                                "Events acted on": (RED,)})
-
-
+    for later_by, until in ((0, "to packet 44"), (1, "still on at the end")):
+        lives = changed(lambda it: it.device == 2 and it.at == START + 8 * SECOND + 2000, simulated=True, at=START + 8 * SECOND + 504_000 + later_by)
+        yield Judged(f"a simulated frame whose lifetime is over {later_by} \u03bcs behind the last packet", capture(packets(lives)), {
+            "Simulation": (RED, "1 frame from packet 44", until), "Losses": (RED,), "Events acted on": (RED,)})
     marked = capture((at, it[:18] + b"\x80" + it[19:] if it[11] == 2 else it) for at, it in packets())
     told = {"Simulation": (AMBER, "Reserved 1 says simulated, and the APDU does not: D2LD0/LLN0$GO$gcb1: 14 frames from packet 2 on")}
     yield Judged("frames that Reserved 1 alone calls simulated", marked, told)
@@ -416,6 +425,7 @@ def synchronised():
              "smpSynch changes"),
             ("samples that lose their clock after many changes", sampled(*[1, 2] * 30, 0), RED, "smpSynch goes to 0", "MU1: 0 from packet 241 on"),
             ("samples that are synchronised later", sampled(0, 2), AMBER, "smpSynch is 0", "2 from packet 151 on"),
+            ("samples that lose a local clock", sampled(1, 0), RED, "smpSynch goes to 0", "MU1: 0 from packet 151 on"),
             ("samples that lose their clock", sampled(2, 0), RED, "smpSynch goes to 0", "MU1: 0 from packet 151 on (22:13:21.510000 UTC)")):
         yield Judged(name, octets, {"Synchronisation": told}, "--period", "100")
     one = [(at, it.replace(b"\x85\1\2", b"\x85\1\0", 1) if place == 3 else it) for place, (at, it) in enumerate(stream(4000, SHORT))]
@@ -437,7 +447,19 @@ def gone(held, since, until):
     return [it for it in held if not START + since * SECOND <= it[0] < START + until * SECOND]
 
 
+def shown_rates():
+    """A capture shows a rate to 2 in 100: just within it, and just beyond it either way."""
+    for shown, is_like in ((3922, True), (4078, True), (3918, False), (4082, False)):
+        octets = capture([(START + (at - START) * 4000 // shown, it) for at, it in stream(4000, SHORT)])
+        about = f"the capture shows about {shown:,} samples a second"
+        for asked, source, other in (((), "by what the capture shows", f"no rate is known, and {about}"),
+                                     (("--period", "4000"), "by --period", f"{about}, and not 4,000 (by --period)")):
+            told = (GREEN, f"MU1: 4,000 samples a second {source}") if is_like else (AMBER, other)
+            yield Judged(f"a stream of {shown} samples a second by its times, {source}", octets, {"Samples": told}, *asked)
+
+
 def rates():
+    yield from shown_rates()
     good = capture(stream(4000, SHORT))
     lost = capture(gone(stream(4000, 1.45), 0.21, 1.21))
     yield Judged("a stream whose rate the capture shows", good, {"Samples": (GREEN, "MU1: 4,000 samples a second by what the capture shows")})
@@ -452,7 +474,8 @@ def rates():
     yield Judged("a stream of no usual rate that is given", slow, {}, "--period", "200")
     two = capture(in_order([*gone(stream(4000, 0.5), 0.2, 0.25), *stream(4800, 0.45, b"MU2", source=0x32)]))
     both = [f"{name}: {rate} samples a second by what the capture shows" for name, rate in (("MU1", "4,000"), ("MU2", "4,800"))]
-    yield Judged("two streams of two rates", two, {"Losses": (RED, "200 samples missing"), "Samples": (GREEN, *both)})
+    yield Judged("two streams of two rates", two, {"Losses": (RED, "200 samples missing"), "Samples": (GREEN, *both)},
+                 says=["losses --capture --json --skip-other --period=MU2=4800 --period=MU1=4000 <"])
     yield Judged("two streams of two rates that are given", two, {"Losses": (RED, "200 samples missing"), "Samples": (GREEN,
         "MU2: 4,800 samples a second by --period")},
                  "--period", "MU2=4800", "--period", "4000")
@@ -460,6 +483,9 @@ def rates():
     yield Judged("two streams of two rates, of which nothing is missing", capture(whole), {"Losses": (GREEN,), "Samples": (GREEN, *both)})
     lacking = without(lambda it: it.device == 2 and it.sequence == 101)
     yield Judged("two streams of two rates beside a lost frame", capture(in_order([*whole, *lacking])), {"Losses": (RED, "1 frame missing (")})
+    unknown = in_order([*gone(stream(4000, 0.5), 0.2, 0.25), *stream(200, 1, b"MU2", a_frame=1, source=0x32)])
+    yield Judged("a stream of a rate beside one of none", capture(unknown), {"Losses": (RED, "200 samples missing"), "Samples": (AMBER, "MU2")},
+                 says=["losses --capture --json --skip-other --period=MU1=4000 <"])
     yield Judged("a rate that is given twice", two, {"Losses": (RED, "200 samples missing")}, "--period", "MU1=50", "--period", "MU1=4000")
     for rate, mode, words in ((80, None, "smpRate 80, a period at 50 Hz"), (80, "SmpPerPeriod", "smpRate 80, a period at 50 Hz"), (4000, "SmpPerSec",
         "smpRate 4000, a second")):
@@ -507,6 +533,15 @@ def received():
     yield Judged("a block that did not come in less than its MaxTime", good, young, *asked, scd=configured_blocks(range(1, 6), 20000))
     told = {"Received": (RED, "no frame of D5LD0/LLN0$GO$gcb1 came"), "Configuration": (RED,)}
     yield Judged("a block that did not come in its MaxTime", good, told, *asked, scd=configured_blocks(range(1, 6), 5000))
+    # From the first packet to the last one it is 11.003 s; and just a minute, or a microsecond less.
+    yield Judged("a block that did not come in just its MaxTime", good, told, *asked, scd=configured_blocks(range(1, 6), 11003))
+    young = {**never, "Received": (AMBER, "no frame of D5LD0/LLN0$GO$gcb1 (MaxTime is 11,004 ms) came", "capture for longer")}
+    yield Judged("a block that did not come in just less than its MaxTime", good, young, *asked, scd=configured_blocks(range(1, 6), 11004))
+    for early, wanted in ((0, told), (1, never)):
+        sent = [Frame(START + second * SECOND + 1000 * which - early * (second == 60), which, 5, 100 + second, START - HOUR)
+                for second in range(61) for which in range(1, 5) if second < 60 or which == 1]
+        yield Judged(f"a block that did not come in a minute less {early} \u03bcs", capture([(it.at, it.octets()) for it in sent]),
+                     {**wanted, "Clocks": (AMBER, "no state began")}, *asked, scd=scd)
     more = "no frame of D5LD0/LLN0$GO$gcb1 (MaxTime is 20,000 ms); D6LD0/LLN0$GO$gcb1 (MaxTime is 20,000 ms); D7LD0/LLN0$GO$gcb1 (MaxTime is 20,000 ms); 3 more came"
     yield Judged("many blocks that did not come in less than their MaxTime", good, {**never, "Received": (AMBER, more)}, *asked,
                  scd=configured_blocks(range(1, 11), 20000))

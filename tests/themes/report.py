@@ -49,13 +49,15 @@ READ = 10
 # An earlier page, by what a page has near its head.
 EARLIER = b'<!DOCTYPE html>\n<html lang="en">\n<head>\n<meta charset="utf-8"/>\n<meta name="generator" content="goose report"/>\nbefore'
 # What tells how wide each frame of a page is, what stands in it, and how many elements reach beyond it: but for those in what can be moved
-# sideways, and heads of tables that are shown to readers of screens alone.
+# sideways, and heads of tables that are shown to readers of screens alone; then how many numbers are on two lines, and how many cells are too low for
+# what is in them and for the head beside it.
 WIDTHS = """onload = () => {
   const beyond = root => [...root.querySelectorAll("body *")].filter(it => !it.closest(".scroll, thead, svg")
     && it.getBoundingClientRect().right > root.clientWidth + 1).length
   const broken = root => [...root.querySelectorAll("td.number .whole, th.number .whole")].filter(it => it.getClientRects().length > 1).length
+  const low = root => [...root.querySelectorAll("tbody [data-of]")].filter(it => it.scrollHeight > it.clientHeight + 1).length
   const roots = [...document.querySelectorAll("iframe")].map(it => it.contentDocument.documentElement)
-  document.title = roots.map(it => `${it.clientWidth}:${it.scrollWidth}:${beyond(it)}:${broken(it)}`).join(" ")
+  document.title = roots.map(it => `${it.clientWidth}:${it.scrollWidth}:${beyond(it)}:${broken(it)}:${low(it)}`).join(" ")
 }"""
 # The widths of windows in pixels, and what an A4 sheet has between its margins.
 WINDOWS, SHEET = (360, 1000, 1400), 703
@@ -449,9 +451,7 @@ class Browsed:
         self.name, self.octets, self.scd, self.asked = f"a page of {what} in a browser", octets, scd, asked
 
     def why_wrong(self, program):
-        browser = shutil.which("chromium") or shutil.which("chromium-browser")
-        if not browser:
-            raise Skipped("there is no chromium")
+        browser = chromium()
         octets, said, _, _ = reported(program, self.octets, "--scd", "of.scd", *self.asked, scd=self.scd)
         if octets is None:
             return [said]
@@ -472,15 +472,27 @@ class Browsed:
             yield f"it shows another text, of {len(inside(dumped))} letters: {dumped[:200]}"
         title = re.search(r"<title>([^<]*)</title>", self.dump(browser, folder / "frames.html", folder))
         widths = [it.split(":") for it in title[1].split(" ")] if title else []
-        if len(widths) != len(pages) or any(int(wide) > int(seen) or int(seen) < 300 or int(beyond) for seen, wide, beyond, _ in widths):
+        if len(widths) != len(pages) or any(int(wide) > int(seen) or int(seen) < 300 or int(beyond) for seen, wide, beyond, *_ in widths):
             yield f"it is wider than its window: {title and title[1]}"
-        elif any(int(broken) for *_, broken in widths):
-            yield f"a number is on two lines: {title[1]}"
+        elif any(int(broken) or int(low) for *_, broken, low in widths):
+            yield f"a number is on two lines, or a cell is too low: {title[1]}"
 
     def dump(self, browser, file, folder):
-        words = [browser, "--headless=new", "--no-sandbox", "--disable-gpu", "--allow-file-access-from-files", "--virtual-time-budget=4000",
-                 f"--user-data-dir={folder}/profile", "--dump-dom", file.as_uri()]
-        return subprocess.run(words, stdin=subprocess.DEVNULL, stdout=subprocess.PIPE, stderr=subprocess.DEVNULL, timeout=SECONDS).stdout.decode()
+        return browse(browser, folder, "--allow-file-access-from-files", "--virtual-time-budget=4000", "--dump-dom", file.as_uri()).decode()
+
+
+def chromium():
+    """The browser by which pages are looked at."""
+    browser = shutil.which("chromium") or shutil.which("chromium-browser")
+    if not browser:
+        raise Skipped("there is no chromium")
+    return browser
+
+
+def browse(browser, folder, *words):
+    """What the browser writes; it keeps its own files in a folder."""
+    words = [browser, "--headless=new", "--no-sandbox", "--disable-gpu", f"--user-data-dir={folder}/profile", *words]
+    return subprocess.run(words, stdin=subprocess.DEVNULL, stdout=subprocess.PIPE, stderr=subprocess.DEVNULL, timeout=SECONDS).stdout
 
 
 # ---- What has no page --------------------------------------------------------

@@ -1,13 +1,18 @@
-"""The page is bounded whatever the capture, and what it leaves out is counted."""
+"""The page is bounded whatever the capture, on paper too, and what it leaves out is counted."""
+import pathlib
 import re
+import tempfile
 import types
 
-from helpers.asked_tools import module
+from helpers import made_station
+from helpers.asked_tools import EXAMPLES, module
 from helpers.capture_parts import interface, packet, section
 from helpers.frames import element, with_fields
-from themes.report import EVENTS, Page, reported, told, words
+from themes.report import EVENTS, Page, browse, chromium, reported, told, words
 
 MOST_OCTETS, MOST_ROWS = 1_500_000, 200
+# A sheet of a printed page, in its file.
+SHEET = re.compile(rb"/Type\s*/Page\b")
 BLOCKS, ROUNDS = 230, 8
 
 
@@ -49,6 +54,25 @@ class Bounded:
             yield f"folded: {folded}"
         if len(whole.rows("Control blocks (GOOSE)")) != BLOCKS:
             yield f"--all lists {len(whole.rows('Control blocks (GOOSE)'))} control blocks"
+
+
+class Printed:
+    """A page has at most so many sheets of A4 as Chromium prints it."""
+
+    def __init__(self, what, most, octets, scd, *asked):
+        self.name, self.most, self.octets, self.scd, self.asked = f"the sheets of a page of {what}", most, octets, scd, asked
+
+    def why_wrong(self, program):
+        browser = chromium()
+        octets, said, _, _ = reported(program, self.octets, "--scd", "of.scd", *self.asked, scd=self.scd)
+        if octets is None:
+            return [said]
+        with tempfile.TemporaryDirectory() as folder:
+            folder = pathlib.Path(folder)
+            (folder / "page.html").write_bytes(octets)
+            browse(browser, folder, f"--print-to-pdf={folder / 'page.pdf'}", (folder / "page.html").as_uri())
+            sheets = len(SHEET.findall((folder / "page.pdf").read_bytes()))
+        return [] if 1 <= sheets <= self.most else [f"it is printed on {sheets} sheets, and not on 1 to {self.most}"]
 
 
 class Room:
@@ -94,3 +118,5 @@ class Room:
 def cases():
     yield Room()
     yield Bounded()
+    yield Printed("a station with every kind of finding", 16, made_station.capture(), made_station.scd(), "--period", "100")
+    yield Printed("two bays", 4, (EXAMPLES / "two_bays.pcapng").read_bytes(), (EXAMPLES / "station.scd").read_text())

@@ -175,16 +175,26 @@ class Qualities:
     def why_looks_wrong(self):
         events, many = module("reporting.events"), 400
         members = [Looked(bits="10") for _ in range(many)]
-        event = events.Event("act", types.SimpleNamespace(packet=1), None)
-        event.act({**dict.fromkeys(events.STATE), "members": members}, [(f"{at}", "01", "10") for at in range(1, many + 1)], False)
-        if Looked.number > 2 * many or event.is_test:
-            yield f"{many} members are looked at {Looked.number} times, test: {event.is_test}"
+        is_test = events.is_of_test(members, [(f"{at}", "01", "10") for at in range(1, many + 1)])
+        if Looked.number > 2 * many or is_test:
+            yield f"{many} members are looked at {Looked.number} times, test: {is_test}"
         good, test = {"bits": "0" * 13}, {"bits": "0" * 11 + "10"}
         for members, path, wanted in (([True, test], "1", True), ([True, good, test], "1", False), ([True, good, True, test], "3", True), ([True], "1", False),
                                       ([{"structure": [True, test]}, True, good], "1.1", True), ([{"structure": [True, test]}, True, good], "2", False)):
-            event.act({**dict.fromkeys(events.STATE), "members": members}, [(path, False, True)], False)
-            if event.is_test != wanted:
-                yield f"member {path} of {members}: test {event.is_test}"
+            if events.is_of_test(members, [(path, False, True)]) != wanted:
+                yield f"member {path} of {members}: test {not wanted}"
+        if not events.is_of_test([True, test, True, good], [("1", False, True), ("3", False, True)]):
+            yield "one of two members that changed is of a test, and the event is not"
+        yield from self.why_rises_wrong()
+
+    def why_rises_wrong(self):
+        """A boolean goes true from false alone, and not from what was no boolean."""
+        for old, wanted in ((False, 1), ({"bits": "00"}, 0), ("", 0)):
+            trip = module("reporting.trip").Trip(None)
+            trip.see(types.SimpleNamespace(changes=[("1", old, True)], names=module("member_names").NONE, block=None,
+                                           place=types.SimpleNamespace(microseconds=5, packet=1)))
+            if len(trip.rises) != wanted:
+                yield f"{old} to true: {len(trip.rises)} booleans go true"
 
 
 class Bounds:
@@ -217,7 +227,7 @@ class Lanes:
         for at in range(8):
             lane.add("act", 100, [f"word {at}"])
         rows = [row for row, *_ in lane.words]
-        if rows != list(range(6)) or lane.height != 17 + 15 * 7 + 4:
+        if rows != list(range(6)) or lane.height != 17 + 15 * 7:
             yield f"eight words at one mark stand in the lines {rows}, {lane.height} high"
         lane = drawn.Lane("a lane")
         for x in (100, 300, 990, 990):

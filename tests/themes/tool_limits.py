@@ -7,6 +7,7 @@ import os
 import resource
 import subprocess
 import tempfile
+import time
 
 from helpers.asked_tools import TOOLS, Asked
 from helpers.harness import SECONDS, clipped, text
@@ -218,6 +219,52 @@ def streamed():
         yield Compared(f"a frame {name}", [ONE], [*frames, sampled[0], other], [], 2, torn)
 
 
+# compare_blocks takes at most 3 s of one processor of a quiet machine for 500,000 objects with 20 members each. The measure is what this Python takes to
+# read as many lines as JSON, which grows with it where the machine is busy or slow: 6.2 s, of which 3 s are 0.48. It takes 0.32 to 0.38 of it, and
+# 0.5 to 0.6 where each line is looked at twice. Of some runs the least tells.
+OBJECTS, SENDERS, MOST_READING, RUNS, SOME = 100000, 200, 0.45, 6, 10
+
+
+class Once:
+    """Many objects are read in little time: each is looked at once, and few are read as JSON."""
+
+    name = "compare_blocks: the time of many objects"
+
+    def why_wrong(self, program):
+        members = [False, {"bits": "0" * 13}] * 10
+        names = [f"BAY{at:03}PROT/LLN0$GO$gcbTrip" for at in range(SENDERS)]
+        lines = [line_of(SHOWN, packet=at, gocbRef=names[at % SENDERS], datSet="BAYPROT/LLN0$dsTrip", goID="BAY_TRIP", sqNum=at, members=members)
+                 for at in range(OBJECTS)]
+        blocks, owns, starts, readings = [f"0001,{it},BAYPROT/LLN0$dsTrip,BAY_TRIP,1,20" for it in names], [], [], []
+        why = Compared("many objects", blocks, lines, [f"agrees {it}" for it in blocks], 0).why_wrong(program)
+        for _ in () if why else range(RUNS):
+            owns.append(self.seconds(blocks, text(lines)))
+            starts.append(self.seconds(blocks, text(lines[:SENDERS])))
+            readings.append(self.reading(lines))
+            if min(owns) - min(starts) <= MOST_READING * min(readings):
+                return []
+        return why or [f"it takes {min(owns) - min(starts):.2f} s, and reading its lines as JSON {min(readings):.2f} s"]
+
+    def seconds(self, blocks, given):
+        """The processor time of a run."""
+        with tempfile.NamedTemporaryFile() as file, tempfile.TemporaryFile() as stdin:
+            file.write(text(blocks))
+            file.flush()
+            stdin.write(given)
+            stdin.seek(0)
+            started = subprocess.Popen([TOOLS / "compare_blocks", file.name], stdin=stdin, stdout=subprocess.DEVNULL)
+            _, _, used = os.wait4(started.pid, 0)
+            started.returncode = 0
+        return used.ru_utime + used.ru_stime
+
+    def reading(self, lines):
+        """The processor time for all lines, by that for some."""
+        before = time.process_time()
+        for line in lines[::SOME]:
+            json.loads(line)
+        return (time.process_time() - before) * SOME
+
+
 # ---- Cells -------------------------------------------------------------------
 
 
@@ -291,4 +338,5 @@ def cases():
     yield from grows()
     yield Forms()
     yield from streamed()
+    yield Once()
     yield from cells()

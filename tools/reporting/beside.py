@@ -105,7 +105,7 @@ def row(it):
     """A row of one sender."""
     stream, simulated = "stream, " if it.kind == "sv" else "", ", simulated" if it.is_simulated else ""
     what = f" ({stream}APPID\u00a0{it.appid}, from {senders.hyphened(it.source)}{simulated})"
-    name = page.element("span", [page.named(it.name), page.element("span", what, class_="soft")], class_="name")
+    name = page.element("span", [page.named(it.name), page.element("span", what, class_="soft")], class_="name sender")
     alone = [sections.lines_of([*filter(None, [first_of(only)]), *([f"apart: {first_of(apart)}"] if apart.number else [])])
              for only, apart in zip(it.only, it.apart)]
     turned = f"{it.turned.number:,} (packets\u00a0{'; '.join(f'{one}, {other}' for one, other in it.turned.first)})" if it.turned.number else ""

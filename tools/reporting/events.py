@@ -54,9 +54,10 @@ class Block:
         """The object of a state, from behind its head on. Members of a text that was read are not read again."""
         found = STATE_TOLD.search(line, at)
         if not found:
+            self.text = None
             return json.loads(line)
         quality, delay, state, sequence = found.groups()
-        text = line[found.end():-1]
+        self.text = text = line[found.end():-1]
         if text not in self.told:
             if len(self.told) >= MOST_TOLD:
                 self.told.clear()
@@ -65,10 +66,26 @@ class Block:
             self.qualities[quality] = json.loads(quality)
         return {"tQuality": self.qualities[quality], "delay": int(delay), "stNum": int(state), "sqNum": int(sequence), "members": self.told[text]}
 
+    def step(self, members):
+        """The members that changed since the last state, or None where they are others, and whether one of them is of a test. Members of two texts
+        that followed one another before are not compared again."""
+        texts, self.text_before = (self.text_before, self.text), self.text
+        if self.members is None:
+            return [], False
+        told = self.steps.get(texts)
+        if told is None:
+            changes = changes_of(self.members, members)
+            told = changes, is_of_test(members, changes)
+            if None not in texts:
+                if len(self.steps) >= MOST_TOLD:
+                    self.steps.clear()
+                self.steps[texts] = told
+        return told
+
     def __init__(self, record):
         self.appid, self.name, self.counts, self.members = record["appid"], record["gocbRef"], {}, None
-        # The last members by their texts, and qualities of t.
-        self.told, self.qualities = {}, {}
+        # The last members by their texts, and qualities of t; the last two texts, and what changed from one to another.
+        self.told, self.qualities, self.text, self.text_before, self.steps = {}, {}, None, None, {}
         # Of the counts those that are findings: how many, and the first packet.
         self.findings = {}
         self.names, self.event = member_names.NONE, None
@@ -127,12 +144,10 @@ class Event:
         told += f", {self.number:,} frames" if self.number > 1 else ""
         return f"{told}; {self.note}" if self.note else told
 
-    def act(self, record, changes, is_whole):
+    def act(self, record, changes, is_whole, is_test):
         """The state that is acted on. All its members are kept only where they are told."""
-        self.record, self.changes = {name: record[name] for name in STATE}, changes
+        self.record, self.changes, self.is_test = {name: record[name] for name in STATE}, changes, is_test
         self.members = record["members"] if is_whole else None
-        tests = tests_of(record["members"]) if changes else ()
-        self.is_test = any(path in tests for path, _, _ in changes)
 
     def words(self):
         """The members that changed, each with its name, its old and its new value in words."""
@@ -242,11 +257,11 @@ class Events:
         if is_timed and (self.slowest is None or delay > self.slowest[0]):
             self.slowest = (delay, where.packet, block.name)
         members, is_first = record["members"], block.members is None
-        changes = [] if is_first else changes_of(block.members, members)
+        changes, is_test = block.step(members)
         if is_first or changes is None:
             block.names = self.names.names_of(block.appid, block.name, members)
         event = block.event = Event("act", where, block)
-        event.act(record, changes or [], is_first or changes is None)
+        event.act(record, changes or [], is_first or changes is None, is_test)
         # A packet without a time tells no delay.
         event.record["delay"] = delay if where.microseconds else None
         block.members = members
@@ -330,6 +345,12 @@ def changes_of(before, members, path=""):
         elif not (is_time(old) and is_time(new)):
             found.append((f"{path}{position}", old, new))
     return found
+
+
+def is_of_test(members, changes):
+    """Whether the quality of one of the members that changed has the bit test."""
+    tests = tests_of(members) if changes else ()
+    return any(path in tests for path, _, _ in changes or ())
 
 
 def tests_of(members, path=""):

@@ -43,7 +43,7 @@ def sender_of(record):
     else:
         simulated = ", simulated" if record["simulation"] else ""
         told = [page.named(record["gocbRef"]), page.element("span", f" (APPID\u00a0{record['appid']}{simulated})", class_="soft")]
-    return page.element("span", told, class_="name")
+    return page.element("span", told, class_="name sender")
 
 
 def span(first, last, one, many):
@@ -385,10 +385,29 @@ def copies(it):
 # ---- Runs --------------------------------------------------------------------
 
 
+def runs_of(rates):
+    """The runs of goose losses in which each stream is judged by its own period: of each the period of each svID, by its text. One run is
+    enough where no two streams of one svID have different ones."""
+    runs = [{}]
+    for seen, rate in rates.items():
+        if rate.period:
+            run = next((it for it in runs if it.get(seen.text, rate.period) == rate.period), None)
+            if run is None:
+                runs.append(run := {})
+            run[seen.text] = rate.period
+    return runs
+
+
+def words_of(run, rates):
+    """The words that give a run its periods: one of all streams, where there is but one, else one of each svID."""
+    alike = {it.period for it in rates.values()}
+    return ["--period", str(alike.pop())] if run and len(alike) == 1 else [f"--period={json.loads(text)}={period}" for text, period in run.items()]
+
+
 def merged(runs, periods):
-    """The lines of several runs of goose losses in the order of packets, each a period and its lines: those of control blocks of the first
-    run, those of a stream of the run with its period. Of a stream without one only its samples and changes of smpSynch are told."""
-    held = [own(lines, period, periods, at == 0) for at, (period, lines) in enumerate(runs)]
+    """The lines of several runs of goose losses in the order of packets, each the periods of svIDs and its lines: those of control blocks of
+    the first run, those of a stream of the run with its period. Of a stream without one only its samples and changes of smpSynch are told."""
+    held = [own(lines, run, periods, at == 0) for at, (run, lines) in enumerate(runs)]
     return held[0] if len(held) == 1 else heapq.merge(*held, key=packet_of)
 
 
@@ -397,14 +416,14 @@ def packet_of(line):
     return int(found[1]) if found else math.inf
 
 
-def own(lines, period, periods, is_first):
+def own(lines, run, periods, is_first):
     """The lines of a run that count."""
     for line in lines:
         found = STREAM.search(line) if b',"source":"' in line else None
         theirs = periods.get(found[0]) if found else None
         if found and theirs is None and is_first:
             yield from unjudged(line)
-        elif theirs == period if found else is_first:
+        elif theirs == run.get(found[3]) if found else is_first:
             yield line
 
 
@@ -455,6 +474,8 @@ def totals(records, kind, names, first, order):
 
 
 def total(record, name):
+    if name not in record:
+        return ""
     if name == "longest":
         return page.duration(record[name]) if record["kind"] == "total-goose" else page.count(record[name], "sample")
-    return f"{record[name]:,}" if name in record else ""
+    return f"{record[name]:,}"

@@ -81,22 +81,25 @@ svg .inception { stroke: var(--warn); stroke-width: 1.5; } svg .opening { stroke
   table.wide thead { position: absolute; width: 1px; height: 1px; overflow: hidden; clip-path: inset(50%); }
   table.wide, table.wide tbody, table.wide tr, table.wide th, table.wide td, table.wide caption { display: block; }
   table.wide tbody tr { border: 1px solid var(--line); margin: 0 0 0.6rem; padding: 0.2rem 0; }
-  table.wide tbody th, table.wide tbody td { border: 0; padding: 0.15rem 0.6rem 0.15rem 8.2rem; min-height: 1.5rem; position: relative;
+  table.wide tbody th, table.wide tbody td { border: 0; padding: 0.15rem 0.6rem 0.15rem 8.2rem; min-height: 1.5rem; display: flow-root;
     text-align: left; }
-  table.wide tbody [data-of]::before { content: attr(data-of); position: absolute; left: 0.6rem; width: 7.2rem; color: var(--soft);
-    font-weight: 400; }
+  table.wide tbody [data-of]::before { content: attr(data-of); float: left; width: 7.2rem; margin-left: -7.6rem; color: var(--soft);
+    font-weight: 400; white-space: normal; }
   table.wide tbody td:empty { display: none; }
 }
-@page { size: A4; margin: 14mm 12mm; }
+@page { size: A4; margin: 12mm; }
 @media print {
   body { max-width: none; padding: 0; font-size: 9.5pt; } h1 { font-size: 14pt; margin: 0 0 0.3rem; }
   h2 { font-size: 12pt; margin: 0.9rem 0 0.3rem; padding-top: 0.2rem; } p { margin: 0.2rem 0; }
   .verdict { font-size: 10.5pt; padding: 0.25rem 0.5rem; } .summary, p { max-width: none; }
   .summary li { font-size: 8pt; line-height: 1.25; padding: 0.12rem 0.5rem; margin: 0.1rem 0; }
-  .wide .name { display: inline-block; min-width: 10.5em; } .legend { break-after: avoid; }
+  .wide .name { display: inline-block; width: max-content; max-width: 14em; } .wide .sender { max-width: 22.5em; }
+  .wide [data-of="Reference"] .name, .wide [data-of^="Data set"] .name { width: auto; min-width: 9.4em; max-width: 10.4em; }
+  .wide [data-of="First and last"], .wide [data-of^="Beside"] { max-width: 9.6em; } .wide [data-of="Lifetime"] { max-width: 6em; }
+  .wide thead th { max-width: 9.6em; } .wide [data-of="Addresses"] { font-size: 7pt; } .legend { break-after: avoid; break-inside: avoid; }
   h2, h3, caption, figcaption { break-after: avoid; } tr, .summary li, figure { break-inside: avoid; } thead { display: table-header-group; break-after: avoid; } thead tr { break-after: avoid; }
   table { font-size: 7.6pt; } .wide .whole { white-space: normal; overflow-wrap: anywhere; } .wide .number .whole { white-space: nowrap; }
-  .legend, figcaption { font-size: 8pt; } th, td { padding: 0.15rem 0.3rem; } .summary a { display: none; }
+  figure { margin: 0.4rem 0; } .legend, figcaption { font-size: 8pt; } th, td { padding: 0.15rem 0.2rem; } .summary a { display: none; }
   a { color: inherit; text-decoration: none; }
   .scroll { overflow: visible; border: 0; } .scroll svg { min-width: 0; max-height: 255mm; } pre { font-size: 7.5pt; }
   body, .summary li, svg, .broken, .verdict { print-color-adjust: exact; -webkit-print-color-adjust: exact; }

@@ -7,7 +7,7 @@ from output import date
 from reporting import page
 from time_axis import places_of, step_of
 
-WIDTH, SIDE, TOP, LANE, BAR, TRACK = 1000, 24, 34, 54, 14, 33
+WIDTH, SIDE, TOP, LANE, BAR, TRACK, UNDER = 1000, 24, 34, 46, 14, 28, 15
 # The most octets of pictures, and the most marks and bars of one lane.
 MOST_OCTETS, MOST_DRAWN = 250_000, 150
 # How each entry is drawn around (0, 0), in the order of the legend, and what it is.
@@ -234,7 +234,7 @@ def text(x, y, words, **how):
 
 
 def drawn_mark(kind, x, y):
-    return MARKS[kind][0].format(at=f'transform="translate({x} {y - 14 if kind in ABOVE else y})"')
+    return MARKS[kind][0].format(at=f'transform="translate({x} {y - 12 if kind in ABOVE else y})"')
 
 
 def scale(axis, height, zero, unit, places):
@@ -253,7 +253,7 @@ def labels(marks, y):
     for (kind, x), label in sorted(marks.items(), key=lambda it: it[0][1]):
         half = 4 * len(label) + 2
         if label and x - half >= free:
-            yield text(x, y + 18, label, class_="act", text_anchor="middle")
+            yield text(x, y + UNDER, label, class_="act", text_anchor="middle")
             free = x + half
 
 

@@ -36,7 +36,7 @@ class Lane:
 
     @property
     def height(self):
-        return NAME + LINE * (max(len(self.free), 1) + 1) + 4
+        return NAME + LINE * (max(len(self.free), 1) + 1)
 
     def drawn(self, top):
         y = top + NAME + 8
