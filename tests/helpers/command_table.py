@@ -47,9 +47,9 @@ def code(text):
 
 
 def values_said(sources):
-    """How help writes the value of each option that takes one."""
-    made = re.split(r"Arg::new\(alloc, ", sources)[1:]
-    return {it[1:it.index('"', 1)]: found[1] for it in made if (found := re.search(rf"\A[^}}]*\.value_name\({TEXT}\)", it))}
+    """How help writes the value of each option that takes one, by the rule of the option."""
+    made = [it.partition("\n}\n")[0] for it in sources.split("rule_of result ≡ ")[1:]]
+    return {it[:it.index(" ")]: found[1] for it in made if (found := re.search(rf"\.value_name\({TEXT}\)", it))}
 
 
 def own_word(specs, rule, values):
@@ -61,7 +61,7 @@ def own_word(specs, rule, values):
     required = re.search(r"\brequired = (true|false)", said)
     is_option = under.is_option if under else "long = Some" in said or "option_named" in said
     is_required = required[1] == "true" if required else bool(under and under.is_required)
-    return Own(name, is_option, is_required, values.get(name, "" if is_option else name))
+    return Own(name, is_option, is_required, values.get(rule, "" if is_option else name))
 
 
 def listed(specs, word):

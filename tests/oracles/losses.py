@@ -166,6 +166,16 @@ def sightings(held):
             yield key, tuple(int.from_bytes(asdu[name], "big") for name in ("smp_cnt", "smp_synch"))
 
 
+def period_of(given, key):
+    """The samples of a second of a stream: one number for all; or of texts `N` and `ID=N` the last one of its svID, else the last plain one."""
+    if given is None or isinstance(given, int) or key[0] == "goose":
+        return given
+    divided = [text.rpartition("=") for text in given]
+    own = [number for sv_id, mark, number in divided if mark and sv_id.encode() == key[3]]
+    plain = [number for _, mark, number in divided if not mark]
+    return int([*plain[-1:], *own[-1:]][-1]) if plain or own else None
+
+
 def far_back(times):
     """By how much the last of these times lies below the greatest of the others, where that is a second or more; else 0."""
     by = max(times[:-1], default=0) - times[-1]
@@ -178,7 +188,7 @@ def time_back(times):
 
 
 def findings(octets, period=None, has_failed=False, events_of=reference.events):
-    """What is found in the events that are read of octets: the number and the time of the event, a word, of whom it is said, if of anyone,
+    """With this period, or with the texts of several, what is found in the events that are read of octets: the number and the time of the event, a word, of whom it is said, if of anyone,
     and values. At the end, where the input has no error, what has not come back and totals, which have no event."""
     known, now, times = {}, 0, []
     for number, (sort, moment, held) in events_of(octets, has_failed):
@@ -188,7 +198,7 @@ def findings(octets, period=None, has_failed=False, events_of=reference.events):
         now = max(now, moment)
         for key, numbers in sightings(held) if sort == "frame" else ():
             earlier = known.setdefault(key, [])
-            it = frame_after(earlier, now, *numbers) if key[0] == "goose" else sample_after(earlier, period, now, *numbers)
+            it = frame_after(earlier, now, *numbers) if key[0] == "goose" else sample_after(earlier, period_of(period, key), now, *numbers)
             earlier.append(it)
             yield from ((number, moment, word, key, values) for word, values in it.said)
     yield from closing(known, period, now)
@@ -202,7 +212,7 @@ def closing(known, period, now):
         if silence:
             yield None, None, "end silent", key, silence
     for key, earlier in known.items():
-        total = total_of_sender(earlier, now) if key[0] == "goose" else total_of_stream(earlier, period)
+        total = total_of_sender(earlier, now) if key[0] == "goose" else total_of_stream(earlier, period_of(period, key))
         yield None, None, f"total {key[0]}", key, {name: min(it, MOST) for name, it in total.items()}
 
 
@@ -222,7 +232,7 @@ def not_judged(keys):
     names = list(dict.fromkeys(key[3].decode() for key in keys))
     named = ", ".join([*names[:4], *[".."] * (len(names) > 4)])
     many = "1 stream has" if len(keys) == 1 else f"{len(keys)} streams have"
-    return [f"not judged: {many} no period ({named}): give --period N"] * bool(keys)
+    return [f"not judged: {many} no period ({named}): give --period N or --period ID=N"] * bool(keys)
 
 
 def key_text(key):

@@ -227,13 +227,13 @@ def blocks(name, how):
     return (listed(name, *found) for found in inventory.findings(*how))
 
 
-def replay(name, how, words):
+def replay(name, how, words, options=()):
     octets, *rest = how
     given = [subscriber.Block(word) for word in words]
     twice = subscriber.twice(given)
     if twice is not None:
         return iter([{"kind": "blocks", **block_of(given, twice), "error": "SameBlockTwice"}])
-    return (entered(name, given, *entry) for entry in subscriber.entries(octets, given, *rest))
+    return (entered(name, given, *entry) for entry in subscriber.told(options, subscriber.entries(octets, given, *rest, options)))
 
 
 def watch(name, how, period, sv_id):

@@ -3,7 +3,7 @@ from oracles import dates, inventory, losses, objects, packets, reference, skipp
 
 COMMANDS = "show", "check", "blocks", "replay", "watch", "losses"
 CAPTURE, SKIP, UNWRAP, TIME, JSON = "--capture", "--skip-other", "--unwrap", "--time", "--json"
-OPTIONS = set(reference.OPTIONS)
+OPTIONS = set(reference.OPTIONS) | subscriber.OPTIONS
 
 
 def options_of(asked):
@@ -13,10 +13,20 @@ def options_of(asked):
     return plain, OPTIONS & set(asked[:end])
 
 
+def values(asked, name):
+    """The values of the uses of an option, each in its next word or in its own."""
+    found, words = [], iter(asked)
+    for word in words:
+        if word == name:
+            found.append(next(words, ""))
+        elif word.startswith(f"{name}="):
+            found.append(word[len(name) + 1:])
+    return found
+
+
 def value(asked, name):
-    """The value of an option, in its next word or in its own; None where it is not given."""
-    return next(("".join(asked[at + 1:at + 2]) if word == name else word[len(name) + 1:] for at, word in enumerate(asked)
-                 if word == name or word.startswith(f"{name}=")), None)
+    """The value of an option; None where it is not given."""
+    return next(iter(values(asked, name)), None)
 
 
 def reader_of(asked, events_of=None):
@@ -39,7 +49,7 @@ def answered(asked, octets, has_failed=False, events_of=None):
     elif name == "blocks":
         lines, status = inventory.blocks(octets, *how)
     elif name == "replay":
-        lines, status = subscriber.replay(octets, *own, *how)
+        lines, status = subscriber.replay(octets, *own, *how, options)
     elif name == "losses":
         lines, status = losses.losses(octets, *own, *how)
     else:
@@ -53,8 +63,7 @@ def own_words(plain):
     if name == "watch":
         return name, int(value(own, "--period")), value(own, "--id")
     if name == "losses":
-        period = value(own, "--period")
-        return name, None if period is None else int(period)
+        return name, values(own, "--period")
     return (name, own) if name == "replay" else (name,)
 
 
@@ -67,5 +76,6 @@ def written(asked, lines, octets, has_failed=False, events_of=None):
     if JSON in options:
         name, *own = own_words(plain)
         reader = skipping.Skipping(reader) if SKIP in options else reader
+        own += (options,) if name == "replay" else ()
         return list(objects.objects(name, "packet" if CAPTURE in options else "line", own, octets, has_failed, reader))
     return lines

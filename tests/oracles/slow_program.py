@@ -44,18 +44,25 @@ def said(asked, lines, status, passed, unjudged):
 
 def unjudged_of(asked, plain, octets, has_failed):
     """The streams that a command line does not judge."""
-    is_asked = plain[0] == "losses" and reading.own_words(plain)[1] is None
-    return losses.streams(octets, has_failed, reading.reader_of(asked)) if is_asked else []
+    if plain[0] != "losses":
+        return []
+    given = reading.own_words(plain)[1]
+    return [key for key in losses.streams(octets, has_failed, reading.reader_of(asked)) if losses.period_of(given, key) is None]
 
 
 def refusal(plain):
     """What is wrong with the period of a command line, or with what stands beside it under `losses`; None where all is well."""
     name, *own = plain
-    period = reading.value(own, "--period")
-    if period is not None and not (re.fullmatch(r"\+?\d+", period) and 2 <= int(period) <= 65536):
-        return f"error: invalid value '{period}' for '--period <N>': {period} is not in 2..=65536"
+    periods = reading.values(own, "--period")
+    for text in periods:
+        number = text.rpartition("=")[2] if name == "losses" else text
+        if not (re.fullmatch(r"\+?[0-9]+", number) and 2 <= int(number) <= 65536):
+            value = "[ID=]N" if name == "losses" else "N"
+            return f"error: invalid value '{text}' for '--period <{value}>': {number} is not in 2..=65536"
+    if name == "watch" and len(periods) > 1:
+        return "error: a watch has one --period"
     count = len(own) - own.count("--")
-    is_alone = count == (0 if period is None else 1 + ("--period" in own))
+    is_alone = count == len(periods) + sum(word == "--period" for word in own)
     return None if name != "losses" or is_alone else "error: --period is the one option that has a value"
 
 

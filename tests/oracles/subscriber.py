@@ -72,9 +72,21 @@ def twice(blocks):
     return next((place for place, name in enumerate(names) if name in names[:place]), None)
 
 
-def entries(octets, blocks, has_failed=False, events_of=reference.events):
+# The options of `replay`: changes alone, and simulated frames from the start.
+CHANGES, SIMULATION = "--changes", "--simulation"
+OPTIONS = {CHANGES, SIMULATION}
+# The words of the entries that --changes leaves out.
+LEFT_OUT = {"refreshed", "repeated", "not-subscribed", "sampled"}
+
+
+def told(options, entries_of):
+    """Of entries those that are told with these options."""
+    return (it for it in entries_of if CHANGES not in options or it[2] not in LEFT_OUT)
+
+
+def entries(octets, blocks, has_failed=False, events_of=reference.events, options=()):
     """The entries of the events that are read of octets, each behind the number and the time of its event."""
-    now, mode = 0, False
+    now, mode = 0, SIMULATION in options
     for number, (sort, moment, held) in events_of(octets, has_failed):
         now, said = max(now, moment), []
         for place, block in enumerate(blocks):
@@ -92,13 +104,13 @@ def entries(octets, blocks, has_failed=False, events_of=reference.events):
         yield from ((number, moment, *entry) for entry in said)
 
 
-def replay(octets, words, has_failed=False, events_of=reference.events):
-    """The text of `replay` of these blocks over the events that are read of octets, and the exit status."""
+def replay(octets, words, has_failed=False, events_of=reference.events, options=()):
+    """The text of `replay` of these blocks with options of its own over the events that are read of octets, and the exit status."""
     blocks, lines = [Block(word) for word in words], []
     if twice(blocks) is not None:
         return [f"blocks SameBlockTwice {twice(blocks)}"], 3
     try:
-        for number, _, *entry in entries(octets, blocks, has_failed, events_of):
+        for number, _, *entry in told(options, entries(octets, blocks, has_failed, events_of, options)):
             lines.append(f"{number} {entry_text(*entry)}")
     except reference.ListFault as fault:
         return [*lines, fault.text()], fault.status()

@@ -449,9 +449,9 @@ def unjudged():
         totals = [f'total sv appid=4000 source=0200000000{at:02x} id="{name.decode()}" samples=1' for at, name in enumerate(names)]
         return of(*given), text(totals), 0
 
-    said = b"goose losses: not judged: %s have no period (%s): give --period N\n"
+    said = b"goose losses: not judged: %s have no period (%s): give --period N or --period ID=N\n"
     yield Says("a stream without a period is named", ["losses"], *of_streams_named(b"MU01"),
-               [b"goose losses: not judged: 1 stream has no period (MU01): give --period N\n"])
+               [b"goose losses: not judged: 1 stream has no period (MU01): give --period N or --period ID=N\n"])
     for names, many, named in (((b"MU01", b"MU02"), b"2 streams", b"MU01, MU02"), ((b"A", b"B", b"A", b"B"), b"4 streams", b"A, B"),
                                ((b"A", b"B", b"C", b"D", b"A"), b"5 streams", b"A, B, C, D"),
                                ((b"A", b"B", b"C", b"D", b"E", b"F"), b"6 streams", b"A, B, C, D, .."), ((b"", b"S"), b"2 streams", b", S")):
@@ -459,7 +459,7 @@ def unjudged():
     yield Says("streams that are judged are not named", ASKED, of((0, samples(1))), text([total_sv(samples=1)]))
     yield Says("control blocks alone are not named", ["losses"], of(*pairs((0, 1, 0))), text([total_goose(frames=1)]))
     yield Case("they are named before the error of an input", ["losses"], of((0, samples(1))) + b"X\n", b"3 list LineForm\n", 3,
-               [b"goose losses: not judged: 1 stream has no period (S): give --period N\ngoose losses: line 3: LineForm: "])
+               [b"goose losses: not judged: 1 stream has no period (S): give --period N or --period ID=N\ngoose losses: line 3: LineForm: "])
 
 
 # ---- By chance ---------------------------------------------------------------
@@ -520,8 +520,8 @@ def words():
     for period in ("4000", "+4000", "04000"):
         yield Case(f"a period of {period}", ["losses", "--period", period], of((0, samples(5))), text([total_sv(samples=1)]))
     for period in ("0", "1", "65537", "", "x", " 5", "5.0", "0x5", "-1"):
-        yield Case(f"a period of {period!r} is refused", ["losses", f"--period={period}"], b"X\n", b"", 2, [b"error: ", b"--period <N>"])
-    for own in (["--period"], ["--period", "5", "--period", "5"], ["more"], ["--id", "S"], ["--period", "5", "more"], ["-p", "5"],
+        yield Case(f"a period of {period!r} is refused", ["losses", f"--period={period}"], b"X\n", b"", 2, [b"error: ", b"--period <[ID=]N>"])
+    for own in (["--period"], ["--period", "5", "--period"], ["more"], ["--id", "S"], ["--period", "5", "more"], ["-p", "5"],
                 [TIME, JSON], ["0001,G,D,,1,1"], ["--", "--period", "5", "more"]):
         yield Case(f"words that are refused: {own}", ["losses", *own], b"X\n", b"", 2, [b"error: "])
 

@@ -14,7 +14,7 @@ from themes.devices import CHANGE, SCRIPT, WORDS, words
 
 TOP = pathlib.Path(__file__).resolve().parent.parent.parent
 FORMATS = (TOP / "docs" / "FORMATS.md").read_text()
-SOURCES = TOP / "crates" / "task_engine" / "src"
+CRATES = TOP / "crates"
 # The files in which an error has a sentence for each name, and how a name stands in the table.
 ERRORS = {
     "list_core/src/list_fault.rt": ("ListCause", "list"), "script_core/src/script.rt": ("ScriptCause", "script"),
@@ -48,7 +48,7 @@ class Displayed:
 
     def __init__(self, file, enum, sort):
         self.name, self.sort = f"the sentences of {enum}", sort
-        source = (TOP / "crates" / file).read_text()
+        source = (CRATES / file).read_text()
         body = re.search(rf"pub enum {enum} \{{\n(.*?)\n\}}", source, re.DOTALL)[1]
         self.shown = dict((name, text) for text, name in re.findall(r'#\[error\("(.*?)"\)\]\n    (\w+)', body))
 
@@ -67,7 +67,7 @@ class Tabled:
     name = "the advice of the program is that of docs/FORMATS.md"
 
     def why_wrong(self, _program):
-        stop, told = (SOURCES / "stop.rt").read_text(), (SOURCES / "advising.rt").read_text()
+        stop, told = (CRATES / "task_engine/src/stop.rt").read_text(), (CRATES / "goose/src/messages/advice.rt").read_text()
         advised = {text.replace("\\\\", "\\") for text in re.findall(r'(?s)Advice::\w+ =>\s*(?:\{\s*)?"(.*?)"', told)}
         own = [text for text in SAYS.values() if text in stop]
         return ([f"not alike: {sorted(advised ^ set(ADVICE.values()))}"] if advised != set(ADVICE.values()) else []) + (

@@ -34,7 +34,7 @@ FOUND = {
 OWN_WORDS = {
     "replay": [b"APPID,gocbRef,datSet,goID,confRev,entries", b"0001,IED1LD/LLN0$GO$gcb,IED1LD/LLN0$ds,,1,2"],
     "watch": [b"from 2 to 65536"],
-    "losses": [b"--period <N>", b"from 2 to 65536"],
+    "losses": [b"--period <[ID=]N>", b"from 2 to 65536"],
 }
 # What would have been right, by what the message of the parser says: it stands behind that, or that says it itself.
 RIGHT = {
@@ -205,8 +205,8 @@ def refusals():
         yield Refuses(words, named)
     for words, named in (
         (["losses", "0001,G,D,,1,1"], b"'0001,G,D,,1,1'"), (["losses", "--id", "S"], b"'--id'"), (["losses", "4000"], b"'4000'"),
-        (["losses", "--period"], b"--period <N>"), (["losses", "--period", "--capture"], b"--period <N>"),
-        (["losses", "--period=5", "--period=6"], b"--period <N>"), (["losses", "--", "--period=5"], b"'--period"),
+        (["losses", "--period"], b"--period <[ID=]N>"), (["losses", "--period", "--capture"], b"--period <[ID=]N>"),
+        (["losses", "--", "--period=5"], b"'--period"),
         (["losses", "--json", "--period=5", "--time"], b"'--time' cannot be used with '--json'"), (["losses", "--periods=5"], b"'--periods"),
         (["losses", "--capture", "--capture"], b"'--capture'"), (["--period=5", "losses"], b"'--period"),
     ):
@@ -224,14 +224,15 @@ def refusals():
     ):
         yield Refuses(words, named)
     for period in ("0", "1", "65537", "99999"):
-        for words in (["watch", *name], ["losses"]):
-            yield Refuses([*words, "--period", period], f"'--period <N>': {period} is not in 2..=65536".encode())
+        for words, value in ((["watch", *name], "N"), (["losses"], "[ID=]N")):
+            yield Refuses([*words, "--period", period], f"'--period <{value}>': {period} is not in 2..=65536".encode())
     for period in ("-1", "-5"):
-        for words in (["watch", *name], ["losses"]):
-            yield Refuses([*words, f"--period={period}"], f"'--period <N>': {period} is not in 2..=65536".encode())
+        for words, value in ((["watch", *name], "N"), (["losses"], "[ID=]N")):
+            yield Refuses([*words, f"--period={period}"], f"'--period <{value}>': {period} is not in 2..=65536".encode())
     for period in ("", "x", " 5", "5 ", "5.0", "0x5", "5,0", "\u0665", "9" * 30):
         yield Refuses(["watch", "--period", period, *name], f"invalid value '{period}' for '--period <N>'".encode())
-        yield Refuses(["losses", "--period", period], f"invalid value '{period}' for '--period <N>'".encode())
+        yield Refuses(["losses", "--period", period], f"invalid value '{period}' for '--period <[ID=]N>'".encode())
+        yield Refuses(["losses", "--period=5", f"--period=MU01={period}", "--period", "x"], f"invalid value 'MU01={period}' for '--period <[ID=]N>'".encode())
     for block in (
         "", "0001", "0001,G,D,,1", "0001,G,D,,1,1,1", "001,G,D,,1,1", "00001,G,D,,1,1", "000g,G,D,,1,1", "0001,G,D,,,1",
         "0001,G,D,,4294967296,1", "0001,G,D,,1,12345678901", "0001,G,D,,1,-1", "0001,G\x7f,D,,1,1", "0001,G\u00e9,D,,1,1",
@@ -253,7 +254,8 @@ def accepted():
         yield Case(" ".join(words), words, capture, b"1 block 0001,G,D,,1,1\n" if words[0] == "blocks" else b"")
     for words in (["replay", "0001,G,D,,1,1", "--time", "--capture"], ["replay", "--capture", "--time", "--", "0001,G,D,,1,1"]):
         yield Case(" ".join(words), words, capture, b"1970-01-01T00:00:01.000002Z " + act)
-    for words in ([], ["--"], ["--period", "2"], ["--period=65536", "--skip-other", "--"], ["--json", "--period", "4000"], ["--time"]):
+    for words in ([], ["--"], ["--period", "2"], ["--period=65536", "--skip-other", "--"], ["--json", "--period", "4000"], ["--time"],
+                  ["--period", "MU01=2", "--time", "--period==3", "--period=A=B=+65536", "--"], ["--period=5", "--period=5"]):
         for on_capture, nothing in (([], b""), (["--capture"], header())):
             yield Case(" ".join(["losses", *on_capture, *words]), ["losses", *on_capture, *words], nothing, b"")
     blocks = [f"0001,G{at},D,,1,1" for at in range(299)]

@@ -16,13 +16,9 @@ use Rattle.capture_core.specs.PacketReader.{AnswersPacket, GivesPacket, KeepsPac
 use Rattle.capture_core.specs.Packets.{Packet, events_of, stopped}
 use Rattle.capture_core.proofs.PacketsTaken.{TellsSome, TookPackets, behind_start, taken_before, taken_more, taken_none, taken_then}
 use Rattle.capture_core.proofs.StopsTold.{capture_means}
-use Rattle.capture_core.specs.declared.capture_fault.CaptureCause.{CaptureCause}
-use Rattle.engine_core.specs.declared.stopped.Stopped.{Stopped}
-use Rattle.engine_core.specs.CaptureRun.{CaptureText, KeepsFrame, KeepsInterface, TellsNoMore, capture_faults, capture_input}
-use Rattle.engine_core.specs.Input.{GaveThen, IsRead, Reader, TellsNext}
-use Rattle.engine_core.specs.MadeRun.{answer_made, made}
-use Rattle.engine_core.specs.RunOver.{Leaves, LeavesSo}
-use Rattle.engine_core.proofs.InputRuns.{GivenSo, input_run, reads_made}
+use Rattle.engine_core.specs.CaptureRun.{KeepsFrame, KeepsInterface, TellsNoMore, capture_input}
+use Rattle.engine_core.specs.Input.{IsRead, TellsNext}
+use Rattle.engine_core.proofs.InputRuns.{GivenSo}
 
 -- the octets of an answer were given
 gives_packet : {A : Type 0} (answer : PacketAnswer A) (old new : Option (List ℕ)) (given : List ℕ) → GivesPacket answer old new given → GivesOctets old new given
@@ -102,19 +98,3 @@ module _ {A : Type 0} where
           stands = record { asked = λ front rest parts more. no_more a items front fresh (ran.asked front rest parts (subst (λ z. (rest ≢ []) ⊎ (c.ending ≢ z)) (sym is) more)); keeps = keeps a b c fresh items p answer q };
         },
       )
-
-  -- a reader whose answers are those of one of packets, with this made of each event
-  module _ {I : Type 0} (make : Event A → Event A) (state : I → PacketState) (reader : Reader I (Event A) CaptureCause CaptureFault)
-      (through : (old new : I) (answer : PacketAnswer A) → reader.answers old answer new → (o : PacketAnswer A) × AnswersPacket (state old) o (state new) × (answer ≡ answer_made make o)) where
-    pub made_read : (start end : I) → (state start).stage ≡ at_start → (state start).ending ≡ Open → (items : List (ℕ × Event A)) (answer : PacketAnswer A) → GaveThen reader start end items answer →
-        GivenSo (state start).left (state end).left (λ given. IsRead (made make capture_input) (state end).ending given items answer)
-    made_read start end fresh is =
-        reads_made make capture_input AnswersPacket state reader through (λ x. (state x).left) (λ x. (state x).ending) start end
-        (λ before items answer g q. capture_read (state start) before (state end) items answer fresh is g q)
-
-    -- a run over it is one of what is made of the capture's events
-    pub made_run : (t : CaptureText A) (start : I) (stopped : Stopped I CaptureFault) (old new : Option (List ℕ)) → (state start).stage ≡ at_start → (state start).ending ≡ Open →
-        LeavesSo (stopped.reader ≡ start) (GaveThen reader start stopped.reader) capture_faults t stopped.ending stopped.fault old new →
-        GivenSo (state start).left (state stopped.reader).left (λ given. Leaves (made make capture_input) t stopped.ending stopped.fault (state stopped.reader).ending given old new)
-    made_run t start stopped old new fresh is run =
-        input_run reader (made make capture_input) (λ x. (state x).left) (λ x. (state x).ending) t start stopped old new is (made_read start stopped.reader fresh is) run

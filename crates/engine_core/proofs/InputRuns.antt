@@ -1,17 +1,17 @@
--- A run over a reader of items as one of the input that it reads, and of what is made of each of its items.
-use Rattle.std.proofs.Common.{Option, Some, None, Ok, Err, ◌≡◌, ℕ, List, [], ◌∷◌, inl, inr, ap, ap₂, sym, ◌∙◌, refl, subst}
+-- A run over a reader of items as one of the input that it reads; and what is read of an input, with something made of each item.
+use Rattle.std.proofs.Common.{Option, Some, None, Ok, Err, ◌≡◌, ℕ, List, [], inl, inr, ap, ◌∙◌, refl}
 use Rattle.std.proofs.lemmas.List.{map-append}
 use Rattle.list_core.specs.declared.device.InputEnd.{InputEnd}
 use Rattle.list_core.specs.declared.device.InputEnd.TheVariants.{Open}
 use Rattle.list_core.specs.Device.{GivesOctets}
 use Rattle.list_core.specs.Items.{Numbered, put_items}
-use Rattle.list_core.specs.ReadItems.{AnswerOf, Gave}
+use Rattle.list_core.specs.ReadItems.{AnswerOf}
 use Rattle.list_core.proofs.Devices.{Consumes-none, Gives-from_Consumes}
 use Rattle.engine_core.specs.EngineText.{Allowed}
 use Rattle.engine_core.specs.declared.stopped.Stopped.{Stopped}
 use Rattle.engine_core.specs.Input.{GaveThen, Input, IsRead, Reader, TellsNext}
 use Rattle.engine_core.specs.MadeRun.{answer_made, each_made, made, with_each}
-use Rattle.engine_core.specs.RunOver.{Leaves, LeavesSo, RunsOver}
+use Rattle.engine_core.specs.RunOver.{Leaves, LeavesSo}
 use Rattle.engine_core.proofs.ReaderRuns.{run_as}
 
 -- octets that were given of an input, of which that is so
@@ -36,12 +36,6 @@ input_run reader input left told t start stopped old new is reads (inr run) =
 -- ---- what is made of each item
 
 module _ {X F : Type 0} (make : X → X) where
-  -- an answer that has an item was made of one
-  made_some : (raw : AnswerOf X F) (e : ℕ × X) → Ok (Some e) ≡ answer_made make raw → (r : ℕ × X) × (raw ≡ Ok (Some r)) × (e ≡ (r.0, make r.1))
-  made_some (Ok (Some r)) e h = (r, refl, cc)
-  made_some (Ok None) e h = cc
-  made_some (Err f) e h = cc
-
   -- what an answer says of the input, it says of what is made of its items
   made_tells : (raw : AnswerOf X F) (onward : Numbered X F) → TellsNext raw onward → TellsNext (answer_made make raw) (with_each make onward)
   made_tells (Ok (Some e)) onward h = (with_each make h.0, ap (with_each make) h.1)
@@ -62,25 +56,3 @@ module _ {X C F : Type 0} (make : X → X) (input : Input X C F) where
     tells = made_tells make answer r.onward r.tells;
     stands = record { said = items; are_made = refl; told = answer; is_made = refl; stands = r.stands };
   }
-
-  -- a reader whose answers are those of another, with this made of each item
-  module _ {I P : Type 0} (raw : P → AnswerOf X F → P → Type 0) (state : I → P) (reader : Reader I X C F)
-      (through : (old new : I) (answer : AnswerOf X F) → reader.answers old answer new → (o : AnswerOf X F) × raw (state old) o (state new) × (answer ≡ answer_made make o)) where
-    gave_through : (a b : I) (items : List (ℕ × X)) → Gave reader.answers a items b → (os : List (ℕ × X)) × (items ≡ each_made make os) × Gave raw (state a) os (state b)
-    unfolding Gave
-    gave_through a b [] same = ([], refl, ap state same)
-    gave_through a b (e ∷ es) (next, q, g) =
-        let p = through a next (Ok (Some e)) q in
-        let s = made_some make p.0 e p.2 in
-        let v = gave_through next b es g in
-        (s.0 ∷ v.0, ap₂ (λ x xs. x ∷ xs) s.2 v.1, (state next, subst (λ o. raw (state a) o (state next)) s.1 p.1, v.2))
-
-    -- what it gave and then answered is read, if what the other one gave is
-    pub reads_made : (left : I → Option (List ℕ)) (told : I → InputEnd) (start end : I) →
-        ((before : P) (items : List (ℕ × X)) (answer : AnswerOf X F) → Gave raw (state start) items before → raw before answer (state end) → GivenSo (left start) (left end) (λ given. IsRead input (told end) given items answer)) →
-        (items : List (ℕ × X)) (answer : AnswerOf X F) → GaveThen reader start end items answer → GivenSo (left start) (left end) (λ given. IsRead (made make input) (told end) given items answer)
-    reads_made left told start end reads items answer g =
-        let p = gave_through start g.before items g.gave in
-        let q = through g.before end answer g.answered in
-        let r = reads (state g.before) p.0 q.0 p.2 q.1 in
-        (r.0, r.1, subst (λ o. IsRead (made make input) (told end) r.0 items o) (sym q.2) (subst (λ es. IsRead (made make input) (told end) r.0 es (answer_made make q.0)) (sym p.1) (read_made (told end) r.0 p.0 q.0 r.2)))

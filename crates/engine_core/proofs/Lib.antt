@@ -10,6 +10,7 @@ pub mod InputRuns
 pub mod ListRuns
 pub mod CaptureRuns
 pub mod ReadFaults
+pub mod ListedRuns
 pub mod WholeRuns
 pub mod WholeTexts
 pub mod AsBefore

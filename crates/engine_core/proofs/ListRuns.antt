@@ -1,24 +1,21 @@
 -- What a reader of a list gave and then answered is read of the list, no further than the line of the answer.
-use Rattle.std.proofs.Common.{Option, Some, None, Ok, Err, ◌≡◌, ◌⊎◌, ℕ, ◌+◌, List, [], ◌∷◌, ◌++◌, inl, ap, ap₂, sym, ◌∙◌, refl, subst, arith}
+use Rattle.std.proofs.Common.{Option, Some, None, Ok, Err, ◌≡◌, ◌⊎◌, ℕ, ◌+◌, List, [], ◌∷◌, ◌++◌, inl, ap, ap₂, sym, ◌∙◌, subst, arith}
 use Rattle.std.proofs.lemmas.List.{append-nil, append_assoc}
-use Rattle.list_core.specs.declared.device.InputEnd.{InputEnd}
 use Rattle.list_core.specs.declared.device.InputEnd.TheVariants.{Open}
-use Rattle.list_core.specs.declared.item_reader.ItemReader.{ItemReader}
 use Rattle.list_core.specs.declared.line_rules.ItemFault.{ItemFault}
-use Rattle.list_core.specs.Items.{Rules, Listing, listing, put_items}
-use Rattle.list_core.specs.ItemReader.{ReaderState, Answer, AnswersItem, CountsTo, OnlyKept, Tells, item_state, lines_before}
+use Rattle.list_core.specs.Items.{Rules, Listing, listing}
+use Rattle.list_core.specs.ItemReader.{ReaderState, Answer, AnswersItem, Tells, lines_before}
 use Rattle.list_core.specs.computed.PrivateCalls.{TakesItems}
-use Rattle.list_core.specs.ReadItems.{AnswerOf, Gave}
+use Rattle.list_core.specs.ReadItems.{Gave}
 use Rattle.list_core.specs.Reader.{IsWanting}
 use Rattle.list_core.proofs.Readers.{CanFollow-none, off_after, starts_after}
 use Rattle.list_core.proofs.ItemReaders.{TakesItems-push, TakesItems-none, gives_both, list_whole}
 use Rattle.engine_core.specs.declared.stopped.Stopped.{Stopped}
 use Rattle.engine_core.specs.EngineText.{Allowed}
-use Rattle.engine_core.specs.Input.{GaveThen, IsRead, Reader, TellsNext}
-use Rattle.engine_core.specs.MadeRun.{answer_made, made}
-use Rattle.engine_core.specs.RunOver.{Leaves, LeavesSo, RunsOver}
+use Rattle.engine_core.specs.Input.{IsRead, Reader, TellsNext}
+use Rattle.engine_core.specs.RunOver.{Leaves, RunsOver}
 use Rattle.engine_core.specs.Run.{AtLine, IsOfLine, list_faults, list_input}
-use Rattle.engine_core.proofs.InputRuns.{GivenSo, input_run, reads_made}
+use Rattle.engine_core.proofs.InputRuns.{GivenSo, input_run}
 use Rattle.engine_core.proofs.Wanted.{wanted_behind, wanted_rest}
 
 -- a reader of a list took these items; where its source has ended or failed, it was read so far for one line alone
@@ -112,18 +109,3 @@ module _ {S X C : Type 0} (r : Rules S X C) where
   list_run state number t start stopped old new is no_line no_octet run =
       input_run (list_reader state number) (list_input r (state start).settled) (λ x. (state x).left) (λ x. (state x).ending) t start stopped old new is
       (λ items answer g. list_read (state start) (state g.before) (state stopped.reader) items answer is no_line no_octet (gave_state state start g.before items g.gave) g.answered) run
-
-  -- a reader whose answers are those, with this made of each item
-  module _ {I : Type 0} (make : X → X) (state : I → ReaderState S) (reader : Reader I X C (ItemFault C))
-      (through : (old new : I) (answer : AnswerOf X (ItemFault C)) → reader.answers old answer new → (o : Answer X C) × AnswersItem r (state old) o (state new) × (answer ≡ answer_made make o)) where
-    pub made_read : (start end : I) → (state start).ending ≡ Open → (state start).taken ≡ 0 → (state start).held ≡ [] → (items : List (ℕ × X)) (answer : AnswerOf X (ItemFault C)) → GaveThen reader start end items answer →
-        GivenSo (state start).left (state end).left (λ given. IsRead (made make (list_input r (state start).settled)) (state end).ending given items answer)
-    made_read start end is no_line no_octet =
-        reads_made make (list_input r (state start).settled) (AnswersItem r) state reader through (λ x. (state x).left) (λ x. (state x).ending) start end
-        (λ before items answer g q. list_read (state start) before (state end) items answer is no_line no_octet g q)
-
-    pub made_run : (t : Allowed X C (ItemFault C)) (start : I) (stopped : Stopped I (ItemFault C)) (old new : Option (List ℕ)) → (state start).ending ≡ Open → (state start).taken ≡ 0 → (state start).held ≡ [] →
-        LeavesSo (stopped.reader ≡ start) (GaveThen reader start stopped.reader) list_faults t stopped.ending stopped.fault old new →
-        GivenSo (state start).left (state stopped.reader).left (λ given. Leaves (made make (list_input r (state start).settled)) t stopped.ending stopped.fault (state stopped.reader).ending given old new)
-    made_run t start stopped old new is no_line no_octet run =
-        input_run reader (made make (list_input r (state start).settled)) (λ x. (state x).left) (λ x. (state x).ending) t start stopped old new is (made_read start stopped.reader is no_line no_octet) run

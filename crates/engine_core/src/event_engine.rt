@@ -1,14 +1,18 @@
 //! Engines over events, whatever input the events come from: a list, or a capture.
-ghost use Rattle.std.specs.Prelude.{◌≡◌, ◌++◌, ℕ, List, [], IsOk, OnErr, OnOk, length, take};
+ghost use Rattle.std.specs.Prelude.{◌≡◌, ◌++◌, ℕ, List, [], IsOk, OnErr, OnOk, false, length, take};
 ghost use Rattle.list_core.specs.declared.event.Event.{Event};
 ghost use Rattle.object_core.specs.declared.counted.Form.{Form};
 ghost use Rattle.engine_core.specs.EventsText.{AgreesOnNothing, AlikeEvents, EventAllows, fault_text, in_style, line_in, over_in};
+ghost use Rattle.engine_core.specs.Ending.{is_write_fault};
+ghost use Rattle.engine_core.specs.Input.{reader_of};
+ghost use Rattle.engine_core.specs.RunOver.{RunsOver};
 ghost use Rattle.engine_core.specs.computed.EventStep.{TakesEvent};
 
 use crate::dated::put_dated;
-use crate::running::Engine;
-use crate::style::Style;
-use list_core::{Event, InputFault, LineError};
+use crate::running::{Engine, run_over};
+use crate::stopped::Stopped;
+use crate::style::{HasStyle, InText, Style};
+use list_core::{Event, InputFault, LineError, ReadItems, Sink};
 use object_core::{Form, LastObject};
 use std::alloc::{AllocError, Allocator};
 use text_core::LastLine;
@@ -103,20 +107,22 @@ pub fn put_fault_in<A: Allocator, F: LastLine + LastObject>(
 
 /// Such an engine over one input of events, the fault of which the last line tells.
 #[derive(Drop)]
-pub struct OfEvents<E, A: Allocator> {
+pub struct OfEvents<E, S, A: Allocator> {
     /// What writes of each event.
     pub engine: E,
     /// How that is laid out.
-    pub style: Style,
+    pub style: S,
     /// What was written of an event before its dates: its memory is used again for the next.
     pub undated: Vec<u8, A>,
 }
 
-impl<A: Allocator, F: InputFault + LastLine + LastObject, E: EventEngine<A>> Engine<A, F>
-    for OfEvents<E, A> {
+impl<A: Allocator, F: InputFault + LastLine + LastObject, S: HasStyle, E: EventEngine<A>> Engine<
+    A,
+    F,
+> for OfEvents<E, S, A> {
     type Item = Event<A>;
 
-    ghost allows = { λ s. over_in s.style (E.allows s.engine) (fault_text F.last_line F.last_object) };
+    ghost allows = { λ s. over_in (S.style s.style) (E.allows s.engine) (fault_text F.last_line F.last_object) };
 
     ghost stands = { λ s before. E.stands s.engine before };
 
@@ -129,7 +135,7 @@ impl<A: Allocator, F: InputFault + LastLine + LastObject, E: EventEngine<A>> Eng
         spare: &mut Option<Event<A>>,
     ) -> Result<bool, LineError<F::Refusal>> {
         let put = put_in_style(
-            self.style,
+            self.style.style(),
             &mut self.engine,
             &mut self.undated,
             line,
@@ -144,6 +150,44 @@ impl<A: Allocator, F: InputFault + LastLine + LastObject, E: EventEngine<A>> Eng
     }
 
     fn put_last(&self, line: &mut Vec<u8, A>, fault: &F) -> Result<(), AllocError> {
-        put_fault_in(self.style, line, fault)
+        put_fault_in(self.style.style(), line, fault)
+    }
+}
+
+/// Writes what an engine says of the events of a reader, in a style, and last the fault of its input. Hands out how that ended, the fault by
+/// which it did, and the reader.
+///
+/// Lines of text have a run of their own, for which the compiler knows the style.
+#[inline(always)]
+pub fn run_events<
+    A: Allocator + Copy,
+    F: InputFault + LastLine + LastObject + Drop,
+    I: ReadItems<A, Item = Event<A>, Fault = F>,
+    E: EventEngine<A> + Drop,
+    W: Sink,
+>(alloc: A, style: Style, engine: E, events: I, writer: &mut W) -> Stopped<I, F>
+    requires works { W.failed writer.old ≡ false }
+    requires fresh { E.stands engine [] }
+    ensures text { RunsOver (reader_of I.answers I.number F.refused F.failed) (over_in style (E.allows engine) (fault_text F.last_line F.last_object)) events result (W.contents writer.old) (W.contents writer.new) }
+    ensures fault { W.failed writer.new ≡ is_write_fault result.ending }
+{
+    let undated = Vec::new(alloc);
+    match style {
+        Style::Lines(Form::Text) => {
+            let plain = OfEvents {
+                engine,
+                style: InText,
+                undated,
+            };
+            run_over(alloc, plain, b"", events, writer)
+        }
+        style => {
+            let styled = OfEvents {
+                engine,
+                style,
+                undated,
+            };
+            run_over(alloc, styled, b"", events, writer)
+        }
     }
 }

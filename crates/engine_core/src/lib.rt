@@ -11,10 +11,10 @@ mod style;
 
 pub use crate::dated::put_dated;
 pub use crate::ending::{Ending, status};
-pub use crate::event_engine::{EventEngine, OfEvents, put_fault_in};
+pub use crate::event_engine::{EventEngine, OfEvents, put_fault_in, run_events};
 pub use crate::running::{
     Engine, Next, ended_by, ending_where, refuse, run, run_over, run_to_stop,
 };
 pub use crate::stopped::{Halt, Stopped};
-pub use crate::style::Style;
+pub use crate::style::{HasStyle, InText, Style};
 pub use object_core::{Counted, Form};

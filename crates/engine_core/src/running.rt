@@ -96,7 +96,8 @@ fn answer_fault<A: Allocator, F: InputFault + Drop, E: Engine<A, F>, W: Sink>(
     }
 }
 
-// Writes the text of an item, or the last text where it is refused.
+// Writes the text of an item, or the last text where it is refused. Inlined, so that an item is not moved for it.
+#[inline(always)]
 fn answer_item<A: Allocator, F: InputFault + Drop, E: Engine<A, F>, W: Sink>(
     engine: &mut E,
     line: &mut Vec<u8, A>,

@@ -3,6 +3,7 @@
 use crate::blocks::{Fields, has_fields};
 use clap::error::ErrorKind;
 use goose_cmd::{Options, Request, Task, WordsError, Writing, read_request, read_words};
+use loss_core::period_of;
 
 // The name of the task that these words ask for, or `none`.
 fn task_named(rt: &HostRuntime, words: &[&str]) -> &'static str {
@@ -362,27 +363,37 @@ fn a_request_names_its_file(rt: HostRuntime) {
     }
 }
 
-// Whether these words ask for what is missing, with this period or none, on a capture.
-fn are_losses(rt: &HostRuntime, words: &[&str], wanted: Option<u32>) -> bool {
+// Whether these words ask for what is missing on a capture, and a stream with the svID S and one with MU01 have these periods or none.
+fn are_losses(rt: &HostRuntime, words: &[&str], s: Option<u32>, mu: Option<u32>) -> bool {
     match read_request(rt.alloc(), words) {
         Ok(Request { task, options, .. }) => match task {
-            Task::Losses { period } => period == wanted && options.is_capture,
+            Task::Losses { periods } => {
+                period_of(periods.as_slice(), b"S") == s
+                    && period_of(periods.as_slice(), b"MU01") == mu
+                    && options.is_capture
+            }
             _ => false,
         },
         Err(_) => false,
     }
 }
 
-// Words that ask for what is missing on a capture, and the period of streams.
-const LOSSES: [(&[&str], Option<u32>); 5] = [
-    (&["goose", "losses", "--capture"], None),
+// Words that ask for what is missing on a capture, and the periods of two streams.
+const LOSSES: [(&[&str], Option<u32>, Option<u32>); 8] = [
+    (&["goose", "losses", "--capture"], None, None),
     (
         &["goose", "losses", "--capture", "--skip-other", "--"],
         None,
+        None,
     ),
-    (&["goose", "losses", "--period", "2", "--capture"], Some(2)),
+    (
+        &["goose", "losses", "--period", "2", "--capture"],
+        Some(2),
+        Some(2),
+    ),
     (
         &["goose", "losses", "--capture", "--period=65536"],
+        Some(65_536),
         Some(65_536),
     ),
     (
@@ -395,14 +406,82 @@ const LOSSES: [(&[&str], Option<u32>); 5] = [
             "--",
         ],
         Some(5),
+        Some(5),
+    ),
+    (
+        &["goose", "losses", "--period", "MU01=4000", "--capture"],
+        None,
+        Some(4000),
+    ),
+    (
+        &[
+            "goose",
+            "losses",
+            "--period",
+            "MU01=2",
+            "--period=9",
+            "--capture",
+            "--period=MU01=3",
+            "--period",
+            "7",
+        ],
+        Some(7),
+        Some(3),
+    ),
+    (
+        &[
+            "goose",
+            "losses",
+            "--capture",
+            "--period=A=S=4",
+            "--period==5",
+        ],
+        None,
+        None,
     ),
 ];
 
 #[test]
-fn losses_have_a_period_or_none(rt: HostRuntime) {
+fn losses_have_the_periods_of_the_words(rt: HostRuntime) {
     let mut case = 0u32;
-    for (words, wanted) in LOSSES {
-        assert!(rt; are_losses(&rt, words, wanted), "case {case}");
+    for (words, s, mu) in LOSSES {
+        assert!(rt; are_losses(&rt, words, s, mu), "case {case}");
+        case = case.saturating_add(1);
+    }
+}
+
+// The position of the text of a period that these words are refused by, or 99.
+fn bad_period(rt: &HostRuntime, words: &[&str]) -> usize {
+    match read_request(rt.alloc(), words) {
+        Err(WordsError::Period(position)) => position,
+        _ => 99,
+    }
+}
+
+// Words of which a text says no period, and its position.
+const NO_PERIODS: [(&[&str], usize); 6] = [
+    (&["goose", "losses", "--period", "1"], 0),
+    (&["goose", "losses", "--period=65537"], 0),
+    (&["goose", "losses", "--period=5", "--period", "S="], 1),
+    (&["goose", "losses", "--period=S", "--period=S=x"], 0),
+    (&["goose", "losses", "--period=", "--capture"], 0),
+    (
+        &[
+            "goose",
+            "losses",
+            "--period=A=2",
+            "--period=B=3",
+            "--period=C=1",
+        ],
+        2,
+    ),
+];
+
+#[test]
+fn a_text_that_says_no_period_has_a_position(rt: HostRuntime) {
+    let mut case = 0u32;
+    for (words, position) in NO_PERIODS {
+        assert!(rt; bad_period(&rt, words) == position, "case {case}");
         case = case.saturating_add(1);
     }
 }
@@ -473,7 +552,7 @@ fn is_no_request(rt: &HostRuntime, words: &[&str], kind: ErrorKind) -> bool {
 }
 
 // Words with options that are refused, and by which kind of error.
-const NO_REQUESTS: [(&[&str], ErrorKind); 21] = [
+const NO_REQUESTS: [(&[&str], ErrorKind); 19] = [
     (
         &["goose", "rewrite", "--capture"],
         ErrorKind::UnknownArgument,
@@ -525,14 +604,6 @@ const NO_REQUESTS: [(&[&str], ErrorKind); 21] = [
         ErrorKind::ArgumentConflict,
     ),
     (&["goose", "show", "--help"], ErrorKind::DisplayHelp),
-    (
-        &["goose", "losses", "--period", "1"],
-        ErrorKind::ValueValidation,
-    ),
-    (
-        &["goose", "losses", "--period=65537"],
-        ErrorKind::ValueValidation,
-    ),
     (
         &["goose", "losses", "0001,G,D,,1,1"],
         ErrorKind::UnknownArgument,

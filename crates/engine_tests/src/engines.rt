@@ -4,6 +4,7 @@ ghost use Rattle.list_core.specs.declared.device.InputEnd.{InputEnd};
 
 use crate::losses;
 use crate::losses::{AT_END, tell_losses};
+use crate::styles::replay_changes;
 use engine_core::Style;
 use goose_cmd::{Ending, blocks, check, import, publish, read_block, replay, rewrite, show, watch};
 use list_core::{EventLines, ItemReader, Sink, Source};
@@ -46,6 +47,7 @@ pub(super) enum Example {
     QuietWatch,
     QuietLosses,
     EmptyReplay,
+    ReplayedChanges,
     CutImport,
     Floats,
 }
@@ -123,7 +125,7 @@ pub(super) fn input_of(example: Example) -> &'static [u8] {
         Example::Publish => {
             b"control,010ccd010001,020000000001,,0001,G,D,,1,1,0,0,1\nstep,10,2000\nstep,1000,3000\nchange,0,0000000000000000,8301ff\npoll,9\npoll,10\npoll,1009\npoll,1010\nchange,1500,0000000000000000,830100\n"
         }
-        Example::Replay | Example::Blocks => {
+        Example::Replay | Example::ReplayedChanges | Example::Blocks => {
             b"F 0 010ccd01000102000000000188b80001003500000000612b800147810207d0820144840800000000000000008501018601008701008801018901008a0101ab038301ff\nF 1 010ccd01000102000000000188b80001003500000000612b800147810207d0820144840800000000000000008501018601008701008801018901008a0101ab038301ff\nM 2 on\nF 3 010ccd01000102000000000188b80001003500000000612b800147810203e8820144840800000000000000008501018601008701ff8801018901008a0101ab038301ff\nF 4 010ccd01000102000000000188b80001003500000000612b800147810207d0820144840800000000000000008501038601008701008801018901008a0101ab038301ff\nM 5 off\nF 6 010ccd01000102000000000188b80001003500000000612b800147810207d0820144840800000000000000008501038601048701008801018901008a0101ab038301ff\nF 7 010ccd01000102000000000188b80001003500000000612b800147810207d0820144840800000000000000008501038601058701008801028901008a0101ab038301ff\nC 2006\nF 2007 010ccd04000102000000000188ba4000002800000000601e800101a2193017800153820200038304000000018501028702002a880100\nF 2008 00\n"
         }
         Example::Watch => {
@@ -179,6 +181,9 @@ pub(super) fn text_of(example: Example) -> &'static [u8] {
         }
         Example::Replay => {
             b"1 act 0 st=1 sq=0 t=0000000000000000 {true}\n2 repeated 0 st=1 sq=0\n4 switched 0\n4 act 0 st=1 sq=0 t=0000000000000000 {true}\n5 refused 0 Simulated\n6 switched 0\n7 act 0 st=3 sq=4 t=0000000000000000 {true}\n8 refused 0 ConfRev\n9 expired 0\n10 sampled\n11 fault 1 Truncated\n"
+        }
+        Example::ReplayedChanges => {
+            b"1 act 0 st=1 sq=0 t=0000000000000000 {true}\n4 switched 0\n4 act 0 st=1 sq=0 t=0000000000000000 {true}\n5 refused 0 Simulated\n6 switched 0\n7 act 0 st=3 sq=4 t=0000000000000000 {true}\n8 refused 0 ConfRev\n9 expired 0\n11 fault 1 Truncated\n"
         }
         Example::Blocks => {
             b"1 block 0001,G,D,,1,1\n8 block-changed 0001,G,D,,2,1\n10 stream id=\"S\" rev=1\n"
@@ -252,6 +257,7 @@ pub(super) fn places_of(example: Example) -> &'static [usize] {
         Example::Check | Example::FaultyCheck => &[1, 3],
         Example::Publish => &[0, 4, 6, 8, 9],
         Example::Replay => &[1, 2, 4, 4, 5, 6, 7, 8, 9, 10, 11],
+        Example::ReplayedChanges => &[1, 4, 4, 5, 6, 7, 8, 9, 11],
         Example::Blocks => &[1, 8, 10],
         Example::Watch => &[1, 1, 2],
         Example::FaultyShow | Example::FaultyBlocks | Example::FaultyReplay => &[1, 2, 3],
@@ -314,9 +320,10 @@ fn replay_one<A: Allocator + Copy, R: Source, W: Sink>(
     }
 }
 
-/// Whether streams have a period, where `losses` is run.
+/// Whether streams have a period, where `losses` is run. The list of periods takes memory, so that none is given where none is to
+/// be asked for.
 pub(super) fn judges_streams(example: Example) -> bool {
-    !matches!(example, Example::CountedLosses)
+    matches!(example, Example::Losses | Example::FaultyLosses)
 }
 
 // Runs the engine.
@@ -349,6 +356,10 @@ pub(super) fn run<A: Allocator + Copy, R: Source, W: Sink>(
         | Example::QuietPublish => publish(alloc, reader, writer),
         Example::Replay | Example::FaultyReplay | Example::QuietReplay | Example::EmptyReplay =>
             replay_one(alloc, reader, writer),
+        Example::ReplayedChanges => {
+            let events = ItemReader::new(reader, EventLines::First);
+            replay_changes(alloc, Style::Lines(Form::Text), events, writer)
+        }
         Example::Watch | Example::FaultyWatch | Example::QuietWatch => watch(
             alloc, reader, 9, b"S", writer,
         ),

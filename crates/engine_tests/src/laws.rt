@@ -10,6 +10,7 @@ fn laws_hold(_rt: HostRuntime) {
     laws::scripts_are_in_order::<Global>();
     laws::written_lists_replay::<Global>();
     laws::replay_texts_are_one::<Global>();
+    laws::changes_keep_turns::<Global>();
     laws::watch_texts_are_one::<Global>();
     laws::blocks_texts_are_one::<Global>();
     laws::replays_write_entries::<Global>();

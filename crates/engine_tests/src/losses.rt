@@ -1,8 +1,10 @@
 //! `losses` over a list with each kind of its lines, and what it tells of it in each style.
-ghost use Rattle.std.specs.Prelude.{◌≡◌, false};
+ghost use Rattle.std.specs.Prelude.{◌≡◌, IfSome, false};
+ghost use Rattle.loss_core.specs.Periods.{ArePeriods};
 
 use engine_core::{Ending, Style};
 use list_core::{EventLines, ItemReader, Sink, Source};
+use loss_core::StreamPeriod;
 use loss_engine::{Unjudged, losses_over};
 use std::alloc::Allocator;
 
@@ -39,6 +41,32 @@ pub(super) const COUNTED_DATED: &[u8] =
 pub(super) const COUNTED_OBJECTS: &[u8] =
     b"{\"line\":3,\"microseconds\":1000000,\"time\":\"1970-01-01T00:00:01.000000Z\",\"kind\":\"states-missing\",\"appid\":\"0001\",\"gocbRef\":\"G\",\"simulation\":false,\"from\":2,\"to\":2}\n{\"line\":3,\"microseconds\":1000000,\"time\":\"1970-01-01T00:00:01.000000Z\",\"kind\":\"frames-missing\",\"appid\":\"0001\",\"gocbRef\":\"G\",\"simulation\":false,\"stNum\":3,\"from\":0,\"to\":1}\n{\"line\":4,\"microseconds\":1000000,\"time\":\"1970-01-01T00:00:01.000000Z\",\"kind\":\"late\",\"appid\":\"0001\",\"gocbRef\":\"G\",\"simulation\":false,\"stNum\":1,\"sqNum\":1}\n{\"line\":5,\"microseconds\":3500000,\"time\":\"1970-01-01T00:00:03.500000Z\",\"kind\":\"silent\",\"appid\":\"0001\",\"gocbRef\":\"G\",\"simulation\":false,\"since\":3000000,\"sinceTime\":\"1970-01-01T00:00:03.000000Z\",\"for\":500000}\n{\"line\":5,\"microseconds\":3500000,\"time\":\"1970-01-01T00:00:03.500000Z\",\"kind\":\"restarted\",\"appid\":\"0001\",\"gocbRef\":\"G\",\"simulation\":false,\"stNum\":1,\"sqNum\":0}\n{\"line\":6,\"microseconds\":3500000,\"time\":\"1970-01-01T00:00:03.500000Z\",\"kind\":\"synch\",\"appid\":\"4000\",\"source\":\"020000000001\",\"svID\":\"S\",\"from\":2,\"to\":1}\n{\"line\":8,\"microseconds\":4000000,\"time\":\"1970-01-01T00:00:04.000000Z\",\"kind\":\"time-back\",\"by\":2000000}\n{\"kind\":\"end-silent\",\"appid\":\"0001\",\"gocbRef\":\"G\",\"simulation\":false,\"since\":5500000,\"sinceTime\":\"1970-01-01T00:00:05.500000Z\",\"for\":500000}\n{\"kind\":\"total-goose\",\"appid\":\"0001\",\"gocbRef\":\"G\",\"simulation\":false,\"frames\":4,\"statesMissing\":1,\"framesMissing\":2,\"late\":1,\"repeated\":0,\"restarted\":1,\"silent\":2,\"longest\":2500000}\n{\"kind\":\"total-sv\",\"appid\":\"4000\",\"source\":\"020000000001\",\"svID\":\"S\",\"samples\":5}\n";
 
+// The period of 4,000 samples a second, for all streams.
+fn one_period<A: Allocator>(alloc: A) -> Option<Vec<StreamPeriod<A>, A>>
+    ensures { IfSome result (λ periods. ArePeriods periods.items) }
+{
+    let mut periods = Vec::new(alloc);
+    match periods.push(StreamPeriod::for_all(4000)) {
+        Ok(()) => Some(periods),
+        Err(_) => None,
+    }
+}
+
+// Tells what is missing of the events of a list, in a style, where streams have these periods.
+fn tell<A: Allocator + Copy, R: Source, W: Sink>(
+    alloc: A,
+    style: Style,
+    events: ItemReader<R, EventLines>,
+    periods: Vec<StreamPeriod<A>, A>,
+    writer: &mut W,
+) -> (Ending, R)
+    requires works { W.failed writer.old ≡ false }
+    requires periods { ArePeriods periods.items }
+{
+    let mut unjudged = Unjudged::new(alloc);
+    losses_over(alloc, style, events, periods, &mut unjudged, writer).into_source()
+}
+
 /// Tells what is missing of the events of a list, in a style; of streams too, with 4,000 samples a second, if they are
 /// judged.
 pub(super) fn tell_losses<A: Allocator + Copy, R: Source, W: Sink>(
@@ -50,7 +78,11 @@ pub(super) fn tell_losses<A: Allocator + Copy, R: Source, W: Sink>(
 ) -> (Ending, R)
     requires works { W.failed writer.old ≡ false }
 {
-    let period = if are_judged { Some(4000) } else { None };
-    let mut unjudged = Unjudged::new(alloc);
-    losses_over(alloc, style, events, period, &mut unjudged, writer).into_source()
+    if !are_judged {
+        return tell(alloc, style, events, Vec::new(alloc), writer);
+    }
+    match one_period(alloc) {
+        Some(periods) => tell(alloc, style, events, periods, writer),
+        None => (Ending::Memory, events.into_reader()),
+    }
 }

@@ -6,7 +6,7 @@ use crate::engines::{Example, judges_streams, one_block, run, text_of};
 use crate::losses;
 use crate::losses::tell_losses;
 use engine_core::{Ending, Style};
-use exchange_engines::{replay_over, watch_over};
+use exchange_engines::{PLAINLY, ReplayManner, replay_over, watch_over};
 use frame_engines::{check_over, show_over};
 use inventory_engine::blocks_over;
 use list_core::{EventLines, ItemReader, Sink, Source};
@@ -24,12 +24,13 @@ pub(super) struct Case {
 pub(super) const STYLES: [Style; 2] = [Style::Dated, Style::Lines(Form::Object(Counted::Line))];
 
 /// The examples that are run in each style: of each engine over events, with every kind of line.
-pub(super) const OVER_EVENTS: [Example; 10] = [
+pub(super) const OVER_EVENTS: [Example; 11] = [
     Example::Show,
     Example::Floats,
     Example::Check,
     Example::Blocks,
     Example::Replay,
+    Example::ReplayedChanges,
     Example::Watch,
     Example::Losses,
     Example::CountedLosses,
@@ -64,6 +65,9 @@ fn dated_text_of(example: Example) -> &'static [u8] {
         Example::Replay => {
             b"1970-01-01T00:00:00.000000Z 1 act 0 st=1 sq=0 t=0000000000000000 {true}\n1970-01-01T00:00:00.001000Z 2 repeated 0 st=1 sq=0\n1970-01-01T00:00:00.003000Z 4 switched 0\n1970-01-01T00:00:00.003000Z 4 act 0 st=1 sq=0 t=0000000000000000 {true}\n1970-01-01T00:00:00.004000Z 5 refused 0 Simulated\n1970-01-01T00:00:00.005000Z 6 switched 0\n1970-01-01T00:00:00.006000Z 7 act 0 st=3 sq=4 t=0000000000000000 {true}\n1970-01-01T00:00:00.007000Z 8 refused 0 ConfRev\n1970-01-01T00:00:02.006000Z 9 expired 0\n1970-01-01T00:00:02.007000Z 10 sampled\n1970-01-01T00:00:02.008000Z 11 fault 1 Truncated\n"
         }
+        Example::ReplayedChanges => {
+            b"1970-01-01T00:00:00.000000Z 1 act 0 st=1 sq=0 t=0000000000000000 {true}\n1970-01-01T00:00:00.003000Z 4 switched 0\n1970-01-01T00:00:00.003000Z 4 act 0 st=1 sq=0 t=0000000000000000 {true}\n1970-01-01T00:00:00.004000Z 5 refused 0 Simulated\n1970-01-01T00:00:00.005000Z 6 switched 0\n1970-01-01T00:00:00.006000Z 7 act 0 st=3 sq=4 t=0000000000000000 {true}\n1970-01-01T00:00:00.007000Z 8 refused 0 ConfRev\n1970-01-01T00:00:02.006000Z 9 expired 0\n1970-01-01T00:00:02.008000Z 11 fault 1 Truncated\n"
+        }
         Example::Watch => {
             b"1970-01-01T00:00:00.000000Z 1 0 3 first\n1970-01-01T00:00:00.000000Z 1 1 4 next\n1970-01-01T00:00:00.001000Z 2 0 7 skipped 2\n"
         }
@@ -94,6 +98,9 @@ fn objects_of(example: Example) -> &'static [u8] {
         }
         Example::Replay => {
             b"{\"line\":1,\"microseconds\":0,\"time\":\"1970-01-01T00:00:00.000000Z\",\"kind\":\"act\",\"block\":0,\"appid\":\"0001\",\"gocbRef\":\"G\",\"t\":\"0000000000000000\",\"tTime\":\"1970-01-01T00:00:00.000000Z\",\"tQuality\":{\"leapSecondsKnown\":false,\"clockFailure\":false,\"clockNotSynchronized\":false,\"timeAccuracy\":0},\"delay\":0,\"stNum\":1,\"sqNum\":0,\"members\":[true]}\n{\"line\":2,\"microseconds\":1000,\"time\":\"1970-01-01T00:00:00.001000Z\",\"kind\":\"repeated\",\"block\":0,\"appid\":\"0001\",\"gocbRef\":\"G\",\"stNum\":1,\"sqNum\":0}\n{\"line\":4,\"microseconds\":3000,\"time\":\"1970-01-01T00:00:00.003000Z\",\"kind\":\"switched\",\"block\":0,\"appid\":\"0001\",\"gocbRef\":\"G\"}\n{\"line\":4,\"microseconds\":3000,\"time\":\"1970-01-01T00:00:00.003000Z\",\"kind\":\"act\",\"block\":0,\"appid\":\"0001\",\"gocbRef\":\"G\",\"t\":\"0000000000000000\",\"tTime\":\"1970-01-01T00:00:00.000000Z\",\"tQuality\":{\"leapSecondsKnown\":false,\"clockFailure\":false,\"clockNotSynchronized\":false,\"timeAccuracy\":0},\"delay\":3000,\"stNum\":1,\"sqNum\":0,\"members\":[true]}\n{\"line\":5,\"microseconds\":4000,\"time\":\"1970-01-01T00:00:00.004000Z\",\"kind\":\"refused\",\"block\":0,\"appid\":\"0001\",\"gocbRef\":\"G\",\"reason\":\"Simulated\"}\n{\"line\":6,\"microseconds\":5000,\"time\":\"1970-01-01T00:00:00.005000Z\",\"kind\":\"switched\",\"block\":0,\"appid\":\"0001\",\"gocbRef\":\"G\"}\n{\"line\":7,\"microseconds\":6000,\"time\":\"1970-01-01T00:00:00.006000Z\",\"kind\":\"act\",\"block\":0,\"appid\":\"0001\",\"gocbRef\":\"G\",\"t\":\"0000000000000000\",\"tTime\":\"1970-01-01T00:00:00.000000Z\",\"tQuality\":{\"leapSecondsKnown\":false,\"clockFailure\":false,\"clockNotSynchronized\":false,\"timeAccuracy\":0},\"delay\":6000,\"stNum\":3,\"sqNum\":4,\"members\":[true]}\n{\"line\":8,\"microseconds\":7000,\"time\":\"1970-01-01T00:00:00.007000Z\",\"kind\":\"refused\",\"block\":0,\"appid\":\"0001\",\"gocbRef\":\"G\",\"reason\":\"ConfRev\"}\n{\"line\":9,\"microseconds\":2006000,\"time\":\"1970-01-01T00:00:02.006000Z\",\"kind\":\"expired\",\"block\":0,\"appid\":\"0001\",\"gocbRef\":\"G\"}\n{\"line\":10,\"microseconds\":2007000,\"time\":\"1970-01-01T00:00:02.007000Z\",\"kind\":\"sampled\"}\n{\"line\":11,\"microseconds\":2008000,\"time\":\"1970-01-01T00:00:02.008000Z\",\"kind\":\"fault\",\"offset\":1,\"error\":\"Truncated\"}\n"
+        }
+        Example::ReplayedChanges => {
+            b"{\"line\":1,\"microseconds\":0,\"time\":\"1970-01-01T00:00:00.000000Z\",\"kind\":\"act\",\"block\":0,\"appid\":\"0001\",\"gocbRef\":\"G\",\"t\":\"0000000000000000\",\"tTime\":\"1970-01-01T00:00:00.000000Z\",\"tQuality\":{\"leapSecondsKnown\":false,\"clockFailure\":false,\"clockNotSynchronized\":false,\"timeAccuracy\":0},\"delay\":0,\"stNum\":1,\"sqNum\":0,\"members\":[true]}\n{\"line\":4,\"microseconds\":3000,\"time\":\"1970-01-01T00:00:00.003000Z\",\"kind\":\"switched\",\"block\":0,\"appid\":\"0001\",\"gocbRef\":\"G\"}\n{\"line\":4,\"microseconds\":3000,\"time\":\"1970-01-01T00:00:00.003000Z\",\"kind\":\"act\",\"block\":0,\"appid\":\"0001\",\"gocbRef\":\"G\",\"t\":\"0000000000000000\",\"tTime\":\"1970-01-01T00:00:00.000000Z\",\"tQuality\":{\"leapSecondsKnown\":false,\"clockFailure\":false,\"clockNotSynchronized\":false,\"timeAccuracy\":0},\"delay\":3000,\"stNum\":1,\"sqNum\":0,\"members\":[true]}\n{\"line\":5,\"microseconds\":4000,\"time\":\"1970-01-01T00:00:00.004000Z\",\"kind\":\"refused\",\"block\":0,\"appid\":\"0001\",\"gocbRef\":\"G\",\"reason\":\"Simulated\"}\n{\"line\":6,\"microseconds\":5000,\"time\":\"1970-01-01T00:00:00.005000Z\",\"kind\":\"switched\",\"block\":0,\"appid\":\"0001\",\"gocbRef\":\"G\"}\n{\"line\":7,\"microseconds\":6000,\"time\":\"1970-01-01T00:00:00.006000Z\",\"kind\":\"act\",\"block\":0,\"appid\":\"0001\",\"gocbRef\":\"G\",\"t\":\"0000000000000000\",\"tTime\":\"1970-01-01T00:00:00.000000Z\",\"tQuality\":{\"leapSecondsKnown\":false,\"clockFailure\":false,\"clockNotSynchronized\":false,\"timeAccuracy\":0},\"delay\":6000,\"stNum\":3,\"sqNum\":4,\"members\":[true]}\n{\"line\":8,\"microseconds\":7000,\"time\":\"1970-01-01T00:00:00.007000Z\",\"kind\":\"refused\",\"block\":0,\"appid\":\"0001\",\"gocbRef\":\"G\",\"reason\":\"ConfRev\"}\n{\"line\":9,\"microseconds\":2006000,\"time\":\"1970-01-01T00:00:02.006000Z\",\"kind\":\"expired\",\"block\":0,\"appid\":\"0001\",\"gocbRef\":\"G\"}\n{\"line\":11,\"microseconds\":2008000,\"time\":\"1970-01-01T00:00:02.008000Z\",\"kind\":\"fault\",\"offset\":1,\"error\":\"Truncated\"}\n"
         }
         Example::Watch => {
             b"{\"line\":1,\"microseconds\":0,\"time\":\"1970-01-01T00:00:00.000000Z\",\"kind\":\"first\",\"asdu\":0,\"smpCnt\":3}\n{\"line\":1,\"microseconds\":0,\"time\":\"1970-01-01T00:00:00.000000Z\",\"kind\":\"next\",\"asdu\":1,\"smpCnt\":4}\n{\"line\":2,\"microseconds\":1000,\"time\":\"1970-01-01T00:00:00.001000Z\",\"kind\":\"skipped\",\"asdu\":0,\"smpCnt\":7,\"missing\":2}\n"
@@ -127,10 +134,29 @@ pub(super) fn end_at_failed_read(case: Case) -> &'static [u8] {
     }
 }
 
+// Simulated frames from the start, and changes alone.
+const CHANGES: ReplayManner = ReplayManner {
+    simulates: true,
+    changes_alone: true,
+};
+
+/// Replays over events with one block, simulated frames from the start and changes alone.
+pub(super) fn replay_changes<A: Allocator + Copy, R: Source, W: Sink>(
+    alloc: A,
+    style: Style,
+    events: ItemReader<R, EventLines>,
+    writer: &mut W,
+) -> (Ending, R)
+    requires works { W.failed writer.old ≡ false }
+{
+    replay_one_over(alloc, style, CHANGES, events, writer)
+}
+
 // Replays over events with one block. Want of memory for the block counts as the run's.
 fn replay_one_over<A: Allocator + Copy, R: Source, W: Sink>(
     alloc: A,
     style: Style,
+    manner: ReplayManner,
     events: ItemReader<R, EventLines>,
     writer: &mut W,
 ) -> (Ending, R)
@@ -140,6 +166,7 @@ fn replay_one_over<A: Allocator + Copy, R: Source, W: Sink>(
         Some(blocks) => replay_over(
             alloc,
             style,
+            manner,
             events,
             blocks,
             &mut [false],
@@ -167,7 +194,8 @@ fn run_over<A: Allocator + Copy, R: Source, W: Sink>(
         Example::Blocks | Example::QuietBlocks => blocks_over(
             alloc, style, events, writer,
         ).into_source(),
-        Example::Replay => replay_one_over(alloc, style, events, writer),
+        Example::Replay => replay_one_over(alloc, style, PLAINLY, events, writer),
+        Example::ReplayedChanges => replay_changes(alloc, style, events, writer),
         Example::Watch | Example::QuietWatch => watch_over(
             alloc, style, events, 9, b"S", writer,
         ).into_source(),

@@ -1,4 +1,5 @@
 pub mod ReplayLemmas
+pub mod ListedReplays
 pub mod WatchLemmas
 pub mod PublishLemmas
 pub mod NonEmpty

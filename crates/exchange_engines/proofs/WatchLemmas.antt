@@ -11,18 +11,20 @@ use Rattle.pdu_core.specs.SampledViews.{asdu_of, asdus_left}
 use Rattle.list_core.specs.declared.event.Event.{Event}
 use Rattle.list_core.specs.declared.event.EventKind.{EventKind}
 use Rattle.list_core.specs.declared.event.EventKind.TheVariants as kinds
+use Rattle.list_core.specs.ListReader.{list_fault_of}
+use Rattle.text_core.specs.LineText.{list_fault_line}
 use Rattle.frame_core.specs.declared.frame.Frame.{Frame}
 use Rattle.frame_core.specs.computed.FrameReading.{frame_at}
 use Rattle.subscribe_core.specs.declared.watch.Seen.{Seen}
 use Rattle.subscribe_core.specs.Watch.{AreSeen, seen_after}
 use Rattle.subscribe_core.specs.computed.WatchAnswers.{last_by, seen_all}
 use Rattle.subscribe_core.proofs.Counts.{none_last, none_seen, seen_from}
-use Rattle.engine_core.specs.EventsText.{exactly_event}
+use Rattle.engine_core.specs.EventsText.{EventText, exactly_event, over_events}
 use Rattle.engine_core.specs.computed.EventStep.{EventTaken}
 use Rattle.object_core.specs.declared.counted.Form.{Form}
 use Rattle.object_core.specs.declared.counted.Form.TheVariants.{Text as Lines}
 use Rattle.exchange_engines.specs.SampleLine.{Sample}
-use Rattle.exchange_engines.specs.WatchText.{IsWatchIn, IsWatchText, Telling, counts, counts_of, frame_watched, is_unexpected, sample_at, sample_lines, samples_from, samples_in, samples_of, samples_read, telling, watched}
+use Rattle.exchange_engines.specs.WatchText.{AreWatchTexts, IsWatchIn, IsWatchText, Telling, counts, counts_of, frame_watched, is_unexpected, sample_at, sample_lines, samples_from, samples_in, samples_of, samples_read, telling, watched}
 use Rattle.exchange_engines.specs.computed.WatchStep.{SamplesAppended, Tells, last_of, watch_event, watch_text}
 use Rattle.exchange_engines.proofs.NonEmpty.{no_sample}
 
@@ -109,8 +111,12 @@ watch_of form p id = λ before e.
       lines = refl;
     }
 
+-- texts for each form are, in lines over a list, its text
+pub watch_lines : {A : Type 0} (p : ℕ) (id : List ℕ) (texts : Form → EventText A) → AreWatchTexts p id texts → IsWatchText {A = A} p id (over_events (texts Lines) (λ f. list_fault_line (list_fault_of f)))
+watch_lines p id texts are = record { first = refl; each_item = λ before e. are Lines before e; last = λ f. refl }
+
 pub watch_is : {A : Type 0} (p : ℕ) (id : List ℕ) → IsWatchText {A = A} p id (watch_text p id)
-watch_is p id = record { first = refl; each_item = watch_of Lines p id; last = λ f. refl }
+watch_is p id = watch_lines p id (λ form. watch_event form p id) (λ form. watch_of form p id)
 
 -- an event was written, and the watch stands after it
 pub watches : {A : Type 0} (form : Form) (p q n : ℕ) (id : List ℕ) (before : List (ℕ × Event A)) (event : Event A) (last after : Option ℕ) (found : Bool) (old new : List ℕ) → last ≡ last_of p None (counts_of id before) → q ≡ p

@@ -1,10 +1,10 @@
 -- The text of `replay`: the entries that a whole list of events has for some control blocks, event by event.
-use Rattle.std.specs.Prelude.{◌≡◌, ◌⊎◌, ℕ, Bool, List, [], ◌∷◌, ◌++◌, length, map, false, Option, Some, None, option_map, Result, Ok, codes}
-use Rattle.std.proofs.Common.{inl, inr}
+use Rattle.std.specs.Prelude.{◌≡◌, ◌⊎◌, ℕ, Bool, List, [], ◌∷◌, ◌++◌, length, map, true, false, Option, Some, None, option_map, Result, Ok, codes}
 use Rattle.std.specs.Fmt.{decimal}
 use Rattle.list_core.specs.declared.device.InputEnd.{InputEnd}
 use Rattle.list_core.specs.declared.device.InputEnd.TheVariants.{Open}
 use Rattle.list_core.specs.declared.event.Event.{Event}
+use Rattle.list_core.specs.declared.event.EventKind.TheVariants as kinds
 use Rattle.list_core.specs.declared.event_lines.EventLines.TheVariants.{First}
 use Rattle.list_core.specs.declared.line_rules.ItemFault.{ItemFault}
 use Rattle.list_core.specs.declared.list_fault.ListCause.{ListCause}
@@ -12,6 +12,7 @@ use Rattle.list_core.specs.EventLine.{event_rules}
 use Rattle.list_core.specs.ListReader.{list_fault_of}
 use Rattle.block_core.specs.declared.block.Block.{Block}
 use Rattle.subscribe_core.specs.declared.entry.Entry.{Entry}
+use Rattle.subscribe_core.specs.Changes.{changes}
 use Rattle.subscribe_core.specs.Entries.{AreEntriesAt}
 use Rattle.subscribe_core.specs.Apart.{AreApart, IsFirstTwice}
 use Rattle.engine_core.specs.declared.ending.Ending.{Ending}
@@ -20,10 +21,11 @@ use Rattle.engine_core.specs.EngineText.{Text, exactly}
 use Rattle.engine_core.specs.declared.stopped.Stopped.{Stopped}
 use Rattle.engine_core.specs.declared.style.Style.{Style}
 use Rattle.engine_core.specs.declared.style.Style.TheVariants.{Lines}
-use Rattle.engine_core.specs.EventsText.{EventAllows, EventText, FaultText, line_in, over_in}
+use Rattle.engine_core.specs.EventsText.{EventAllows, FaultText, line_in, over_in}
 use Rattle.engine_core.specs.Input.{Reader}
 use Rattle.engine_core.specs.Run.{LeavesRefused, list_input}
 use Rattle.engine_core.specs.RunOver.{IsUntouched, Leaves, OfKind, RunsOver, stopped_at}
+use Rattle.exchange_engines.specs.declared.engines.replay.ReplayManner.{ReplayManner}
 use Rattle.exchange_engines.specs.declared.engines.replay.ReplayStop.{ReplayStop}
 use Rattle.exchange_engines.specs.declared.engines.replay.ReplayStop.TheVariants as stop
 use Rattle.object_core.specs.declared.counted.Form.{Form}
@@ -42,17 +44,40 @@ pub record ReplaysEvent {A : Type 0} (blocks : List (Block A)) (before : List (�
   pub are_entries : AreEntriesAt blocks (events_of before ++ e.1 ∷ []) (length (events_of before)) entries
   pub lines : written ≡ Ok (entry_lines e.0 entries, false)
 
--- what is written of events that a subscriber of these blocks is handed, whatever input they come from
-abbrev pub IsReplayOf : {A : Type 0} → List (Block A) → EventText A → Type 0
-IsReplayOf {A} blocks text = (before : List (ℕ × Event A)) (e : ℕ × Event A) → ReplaysEvent blocks before e (Ok (text before e))
-
 -- the entries of an event after others
 abbrev pub Says : Type 0 → Type 0
 Says A = List (ℕ × Event A) → ℕ × Event A → List (Entry A)
 
--- those that the list up to it has at it, for these blocks
+-- those that the list up to it has at it, for these blocks, where these events come before all others
+abbrev pub AreSaidBehind : {A : Type 0} → List (Event A) → List (Block A) → Says A → Type 0
+AreSaidBehind {A} first blocks says =
+    (before : List (ℕ × Event A)) (e : ℕ × Event A) → AreEntriesAt blocks ((first ++ events_of before) ++ e.1 ∷ []) (length (first ++ events_of before)) (says before e)
+
+-- the same where none do
 abbrev pub AreSaid : {A : Type 0} → List (Block A) → Says A → Type 0
-AreSaid {A} blocks says = (before : List (ℕ × Event A)) (e : ℕ × Event A) → AreEntriesAt blocks (events_of before ++ e.1 ∷ []) (length (events_of before)) (says before e)
+AreSaid blocks says = AreSaidBehind [] blocks says
+
+-- ---- manners
+
+-- simulated frames are taken from the start: the mode is set on before all other events, at no later moment than any of them
+abbrev pub opening : {A : Type 0} → Bool → List (Event A)
+opening true = record { moment = 0; kind = kinds.Mode true } ∷ []
+opening false = []
+
+-- of the entries of an event changes alone are told, or all
+abbrev pub told_of : {A : Type 0} → Bool → List (Entry A) → List (Entry A)
+told_of true entries = changes entries
+told_of false entries = entries
+
+-- nothing is left out, and real frames are taken from the start
+abbrev pub plainly : ReplayManner
+plainly = record { simulates = false; changes_alone = false }
+
+-- The entries that are told of events in a manner: of those that the events have, behind what the manner opens with, those that it tells.
+pub record AreTold {A : Type 0} (manner : ReplayManner) (blocks : List (Block A)) (says : Says A) : Type 0 where
+  pub said : Says A
+  pub are_said : AreSaidBehind (opening manner.simulates) blocks said
+  pub told : (before : List (ℕ × Event A)) (e : ℕ × Event A) → says before e ≡ told_of manner.changes_alone (said before e)
 
 -- what may be written of these entries in a form: their lines, or objects of them. No event is a finding.
 abbrev pub entries_in : {A : Type 0} → List (Block A) → Says A → Form → EventAllows A
@@ -84,11 +109,11 @@ pub record RefusesTwice {A : Type 0} (Untouched : Type 0) (style : Style) (block
   pub untouched : Untouched
   pub written : LeavesTwiceIn style blocks position ending old new
 
--- The blocks are apart, but memory is refused for what a subscriber of them keeps: what would be read is untouched, and nothing is written.
-pub record KeepsNone {A : Type 0} (Untouched : Type 0) (blocks : List (Block A)) (ending : Ending) (old new : Option (List ℕ)) : Type 0 where
+-- The blocks are apart, but memory is refused for what a subscriber of them keeps, or for an entry where changes alone are told: what would be read is untouched, and nothing is written.
+pub record KeepsNone {A : Type 0} (Untouched : Type 0) (manner : ReplayManner) (blocks : List (Block A)) (ending : Ending) (old new : Option (List ℕ)) : Type 0 where
   pub wants_memory : ending ≡ Memory
   pub are_apart : AreApart blocks
-  pub are_some : blocks ≡ [] → ⊥
+  pub are_some : manner.changes_alone ≡ false → blocks ≡ [] → ⊥
   pub untouched : Untouched
   pub none_written : new ≡ old
 
@@ -109,22 +134,22 @@ pub record Replays {A F : Type 0} (blocks : List (Block A)) (IsLeft : Option F �
   pub is_left : IsLeft fault
 
 -- what a replay of these blocks leaves of what is untouched so, or of which their entries are left so; and why it stops
-abbrev pub ReplaysSo : {A F : Type 0} → Type 0 → Style → List (Block A) → (Option F → Type 0) → Ending → Option (ReplayStop F) → Option (List ℕ) → Option (List ℕ) → Type 0
-ReplaysSo Untouched style blocks IsLeft ending why old new =
+abbrev pub ReplaysSo : {A F : Type 0} → Type 0 → Style → ReplayManner → List (Block A) → (Option F → Type 0) → Ending → Option (ReplayStop F) → Option (List ℕ) → Option (List ℕ) → Type 0
+ReplaysSo Untouched style manner blocks IsLeft ending why old new =
     ((twice : RefusesTwice Untouched style blocks ending old new) × (why ≡ twice_stop ending twice.position))
-    ⊎ (KeepsNone Untouched blocks ending old new × (why ≡ None)) ⊎ Replays blocks IsLeft why
+    ⊎ (KeepsNone Untouched manner blocks ending old new × (why ≡ None)) ⊎ Replays blocks IsLeft why
 
 -- what a replay of these blocks leaves written of a list of which these octets were read, and why it stops
 abbrev pub ReplayWritesTo : {A : Type 0} → List (Block A) → Ending → Option (ReplayStop (ItemFault ListCause)) → InputEnd → List ℕ → Option (List ℕ) → Option (List ℕ) → Type 0
 ReplayWritesTo blocks ending why z read old new =
-    ReplaysSo (IsUntouched Open z read) (Lines forms.Text) blocks (λ fault. OfKind (IsReplayText blocks) (λ t. Leaves (list_input event_rules First) (exactly t) ending fault z read old new)) ending why old new
+    ReplaysSo (IsUntouched Open z read) (Lines forms.Text) plainly blocks (λ fault. OfKind (IsReplayText blocks) (λ t. Leaves (list_input event_rules First) (exactly t) ending fault z read old new)) ending why old new
 
 -- the same, whatever it stops for
 abbrev pub ReplayWrites : {A : Type 0} → List (Block A) → Ending → InputEnd → List ℕ → Option (List ℕ) → Option (List ℕ) → Type 0
 ReplayWrites blocks ending z read old new = (why : Option (ReplayStop (ItemFault ListCause))) × ReplayWritesTo blocks ending why z read old new
 
--- what a replay of these blocks over a reader of events leaves, and why it stops
-abbrev pub ReplaysOver : {A I C F : Type 0} → Style → List (Block A) → Reader I (Event A) C F → FaultText F → I → Stopped I (ReplayStop F) → Option (List ℕ) → Option (List ℕ) → Type 0
-ReplaysOver style blocks reader last start stopped old new =
-    ReplaysSo (stopped.reader ≡ start) style blocks
-    (λ fault. OfKind (AreSaid blocks) (λ says. RunsOver reader (over_in style (entries_in blocks says) last) start (stopped_at stopped.ending fault stopped.reader) old new)) stopped.ending stopped.fault old new
+-- what a replay of these blocks in a manner over a reader of events leaves, and why it stops
+abbrev pub ReplaysOver : {A I C F : Type 0} → Style → ReplayManner → List (Block A) → Reader I (Event A) C F → FaultText F → I → Stopped I (ReplayStop F) → Option (List ℕ) → Option (List ℕ) → Type 0
+ReplaysOver style manner blocks reader last start stopped old new =
+    ReplaysSo (stopped.reader ≡ start) style manner blocks
+    (λ fault. OfKind (AreTold manner blocks) (λ says. RunsOver reader (over_in style (entries_in blocks says) last) start (stopped_at stopped.ending fault stopped.reader) old new)) stopped.ending stopped.fault old new

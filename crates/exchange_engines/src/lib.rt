@@ -6,5 +6,7 @@ mod engines;
 pub mod texts;
 
 pub use crate::engines::publish::{publish, publish_to_stop};
-pub use crate::engines::replay::{ReplayStop, of_input, replay, replay_over, replay_to_stop};
-pub use crate::engines::watch::{watch, watch_over, watch_to_stop};
+pub use crate::engines::replay::{
+    PLAINLY, ReplayManner, ReplayStop, of_input, replay, replay_over,
+};
+pub use crate::engines::watch::{watch, watch_over};

@@ -5,7 +5,7 @@ mod engines;
 pub mod laws;
 pub mod texts;
 
-pub use crate::engines::check::{check, check_over, check_to_stop};
+pub use crate::engines::check::{check, check_over};
 pub use crate::engines::import::{import, import_to_stop};
 pub use crate::engines::rewrite::{rewrite, rewrite_to_stop};
-pub use crate::engines::show::{show, show_over, show_to_stop};
+pub use crate::engines::show::{show, show_over};

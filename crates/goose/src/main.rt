@@ -10,16 +10,19 @@ mod opened;
 mod output;
 mod patient;
 
-ghost use Rattle.std.specs.Prelude.{◌≡◌, IfErr, IfOk, Ok, Some};
+ghost use Rattle.std.specs.Prelude.{◌≡◌, ◌||◌, IfErr, IfOk, Ok, Some, false, not, true};
 ghost use Rattle.clap.specs.Walk.{texts};
-ghost use Rattle.words_core.specs.CommandLine.{HasPeriod, asked_by};
+ghost use Rattle.words_core.specs.CommandLine.{HasPeriod, asked_by, import, publish, rewrite, takes_options};
 ghost use Rattle.words_core.specs.RequestLine.{MayRefuseRequest, request_of_words};
 
 use crate::console::Console;
 use crate::input::{BLOCK, Input, Seen};
+use crate::messages::advice::Advised;
 use crate::messages::block_fields::block_fault;
 use crate::messages::failure::{Failure, Unread};
+use crate::messages::head::{Intake, advice_by_head};
 use crate::messages::passed::passed_frames;
+use crate::messages::period::NoPeriod;
 use crate::messages::unheard::Unheard;
 use crate::messages::unjudged::unjudged_streams;
 use crate::opened::{Begun, Opened};
@@ -33,7 +36,7 @@ use std::alloc::{AllocError, Global};
 use std::io::{BufReader, ErrorKind, IsTerminal};
 use std::process::ExitCode;
 use std::{env, io};
-use task_engine::{Intake, Performed, Told, Unjudged, advice_by_head, perform_request};
+use task_engine::{Notes, Performed, Told, Unjudged, perform};
 use words_core::{Options, Request, Task, WordsError, read_request};
 
 // What is not inlined here needs much of the stack, which is free again when a task runs.
@@ -123,7 +126,13 @@ fn request_of<'a>(rt: &HostRuntime, words: &'a [&'a str]) -> Result<Request<'a>,
 }
 
 // What a task reads by its options.
-fn intake_of(task: &Task, options: Options) -> Intake {
+fn intake_of(task: &Task, options: Options) -> Intake
+    ensures script { asked_by task.now ≡ publish → result ≡ Intake.Script }
+    ensures records { asked_by task.now ≡ import → result ≡ Intake.Records }
+    ensures list { asked_by task.now ≡ rewrite → result ≡ Intake.List }
+    ensures packets { takes_options (asked_by task.now) ≡ true → options.is_capture ≡ true → result ≡ Intake.Packets }
+    ensures events { takes_options (asked_by task.now) ≡ true → options.is_capture ≡ false → result ≡ Intake.ListOrCapture }
+{
     match task {
         Task::Publish => Intake::Script,
         Task::Import => Intake::Records,
@@ -135,13 +144,23 @@ fn intake_of(task: &Task, options: Options) -> Intake {
 
 // The options of a run that reads a file by its name: it is a capture where its first octets are those of one, frames of other
 // protocols are passed over, and frames are unwrapped, unless they are to be taken as they are.
-fn options_by_name(options: Options, is_capture: bool) -> Options {
+fn options_by_name(options: Options, is_capture: bool) -> Options
+    ensures capture { result.is_capture ≡ (options.is_capture || is_capture) }
+    ensures passes_over { result.skips_other ≡ not options.is_raw }
+    ensures unwraps { result.unwraps ≡ not options.is_raw }
+    ensures raw { result.is_raw ≡ options.is_raw }
+    ensures writes { result.writes ≡ options.writes }
+    ensures changes { result.changes_alone ≡ options.changes_alone }
+    ensures simulates { result.simulates ≡ options.simulates }
+{
     Options {
         is_capture: options.is_capture || is_capture,
         skips_other: !options.is_raw,
         unwraps: !options.is_raw,
         is_raw: options.is_raw,
         writes: options.writes,
+        changes_alone: options.changes_alone,
+        simulates: options.simulates,
     }
 }
 
@@ -188,7 +207,7 @@ fn say_stop(rt: &HostRuntime, command: &str, told: Told, intake: Intake, head: &
     let Told { stop, advice } = told;
     let _ = eprintln!(Console::of(rt); "goose {command}: {stop}");
     if let Some(advice) = advice_by_head(intake, head).or(advice) {
-        let _ = eprintln!(Console::of(rt); "{advice}");
+        let _ = eprintln!(Console::of(rt); "{}", Advised(advice));
     }
 }
 
@@ -323,21 +342,22 @@ fn run_over(
     };
     let command = task.name();
     let intake = intake_of(&task, options);
-    let mut heard = flags_for(rt, &task);
-    let mut unjudged = Unjudged::new(rt.alloc());
+    let mut notes = Notes {
+        heard: flags_for(rt, &task),
+        unjudged: Unjudged::new(rt.alloc()),
+    };
     let mut writer = ToWrite::new(&output);
     let Performed {
         ending,
         told,
         passed,
         reader: _,
-    } = perform_request(
+    } = perform(
         rt.alloc(),
         task,
         options,
         FromRead::new(input),
-        heard.as_mut_slice(),
-        &mut unjudged,
+        &mut notes,
         &mut writer,
     );
     let is_written = ending != Ending::WriteFault && output.hand_on().is_ok();
@@ -349,10 +369,10 @@ fn run_over(
     if let Some(passed) = &passed {
         say_passed(rt, command, passed);
     }
-    say_unjudged(rt, command, &unjudged);
+    say_unjudged(rt, command, &notes.unjudged);
     match told {
         Some(told) => say_stop(rt, command, told, intake, seen.into_head().as_slice()),
-        None if ending == Ending::Done => say_unheard(rt, words, heard.as_slice()),
+        None if ending == Ending::Done => say_unheard(rt, words, notes.heard.as_slice()),
         None => {}
     }
     status(&ending)
@@ -373,6 +393,47 @@ fn answer_block(rt: &HostRuntime, words: &[&str], position: usize) -> u8 {
     2
 }
 
+// The text of the use of `--period` at a position. The words are the options of `losses`, of which `-r` and `--read` have a word
+// behind them too.
+fn period_text<'a>(words: &[&'a str], position: usize) -> Option<&'a str> {
+    let mut is_name = false;
+    let mut is_period = false;
+    let mut before = 0usize;
+    for word in words.get(2..)? {
+        let text = if is_period {
+            Some(*word)
+        } else if is_name {
+            None
+        } else {
+            word.strip_prefix("--period=")
+        };
+        let is_value = is_name || is_period;
+        is_period = !is_value && *word == "--period";
+        is_name = !is_value && matches!(*word, "-r" | "--read");
+        if text.is_some() {
+            if before == position {
+                return text;
+            }
+            before = before.saturating_add(1);
+        }
+    }
+    None
+}
+
+// Says which text is no period, and why, and answers the exit status.
+#[inline(never)]
+fn answer_period(rt: &HostRuntime, words: &[&str], position: usize) -> u8 {
+    let text = period_text(words, position).unwrap_or("");
+    let _ = eprintln!(Console::of(rt);
+        "error: {}\n\nFor more information, try '--help'.",
+        NoPeriod(text)
+    );
+    if let Some(text) = advice_on(WordsErrorKind::ValueValidation) {
+        let _ = Console::of(rt).eprintln(text);
+    }
+    2
+}
+
 // Does what the words ask for, and answers the exit status.
 fn answer(rt: &HostRuntime, texts: &[String]) -> u8 {
     let Ok(words) = words_of(rt, texts) else {
@@ -382,6 +443,7 @@ fn answer(rt: &HostRuntime, texts: &[String]) -> u8 {
         Ok(request) => run(rt, request, words.as_slice()),
         Err(WordsError::Words(error)) => answer_words(rt, &error),
         Err(WordsError::Block(position)) => answer_block(rt, words.as_slice(), position),
+        Err(WordsError::Period(position)) => answer_period(rt, words.as_slice(), position),
         Err(WordsError::Memory) => status(&Ending::Memory),
     }
 }

@@ -9,7 +9,7 @@ pub use joint_laws::exchange::{
     what_is_published_is_of_the_run, whole_runs_replay,
 };
 pub use joint_laws::texts::{
-    blocks_texts_are_one, captures_are_replayed, listed_blocks_replay,
+    blocks_texts_are_one, captures_are_replayed, changes_keep_turns, listed_blocks_replay,
     plain_texts_follow_one_another, publish_texts_are_one, published_lists_replay,
     published_texts_replay, replay_texts_are_one, replays_write_entries, scripts_are_in_order,
     watch_texts_are_one, written_lists_replay,

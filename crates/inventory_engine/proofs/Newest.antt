@@ -5,8 +5,11 @@ use Rattle.std.proofs.lemmas.List.{append-nil, reverse-append, reverse-reverse}
 use Rattle.std.proofs.lemmas.Option.{slice_get_within, none-some, same_Some}
 use Rattle.object_core.specs.declared.counted.Form.{Form}
 use Rattle.object_core.specs.declared.counted.Form.TheVariants.{Text as Lines}
+use Rattle.list_core.specs.ListReader.{list_fault_of}
+use Rattle.text_core.specs.LineText.{list_fault_line}
+use Rattle.engine_core.specs.EventsText.{EventText, over_events}
 use Rattle.inventory_engine.specs.Sightings.{Key, Sighting, key_of, sightings_in, sightings_of}
-use Rattle.inventory_engine.specs.BlocksText.{AreLines, IsBlocksIn, IsBlocksText, IsLineAfter, IsNewest, Telling, line_after, telling}
+use Rattle.inventory_engine.specs.BlocksText.{AreBlocksTexts, AreLines, IsBlocksIn, IsBlocksText, IsLineAfter, IsNewest, Telling, line_after, telling}
 use Rattle.inventory_engine.specs.computed.BlocksStep.{blocks_event, blocks_text, lines_by, newest, text_seen}
 use Rattle.inventory_engine.specs.computed.KnownTexts.{same_key, text_by}
 use Rattle.inventory_engine.proofs.KeyLemmas.{same_is, same_yes}
@@ -100,5 +103,9 @@ blocks_of form = λ before e. record {
   text = refl;
 }
 
+-- texts for each form are, in lines over a list, its text
+pub in_lines : {A : Type 0} (texts : Form → EventText A) → AreBlocksTexts texts → IsBlocksText {A = A} (over_events (texts Lines) (λ f. list_fault_line (list_fault_of f)))
+in_lines texts are = record { first = refl; each_item = λ before e. are Lines before e; last = λ f. refl }
+
 pub blocks_is : {A : Type 0} → IsBlocksText {A = A} blocks_text
-blocks_is = record { first = refl; each_item = blocks_of Lines; last = λ f. refl }
+blocks_is = in_lines blocks_event blocks_of

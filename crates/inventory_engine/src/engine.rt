@@ -6,24 +6,20 @@ ghost use Rattle.list_core.specs.declared.event_lines.EventLines.TheVariants.{Fi
 ghost use Rattle.list_core.specs.Device.{GivesOctets};
 ghost use Rattle.list_core.specs.EventLine.{event_rules};
 ghost use Rattle.engine_core.specs.Ending.{is_write_fault};
-ghost use Rattle.list_core.specs.ItemReader.{item_state};
 ghost use Rattle.engine_core.proofs.EventSteps.{exactly_agrees};
-ghost use Rattle.engine_core.specs.EngineText.{exactly};
 ghost use Rattle.engine_core.specs.EventsText.{exactly_each, exactly_event, fault_text, over_in};
 ghost use Rattle.engine_core.specs.Input.{reader_of};
-ghost use Rattle.engine_core.specs.Run.{WritesSome, list_input};
-ghost use Rattle.engine_core.specs.RunOver.{Leaves, OfKind, RunsOver};
+ghost use Rattle.engine_core.specs.Run.{WritesSome};
+ghost use Rattle.engine_core.specs.RunOver.{OfKind, RunsOver};
 ghost use Rattle.inventory_engine.specs.Sightings.{sightings_in};
 ghost use Rattle.inventory_engine.specs.BlocksText.{AreBlocksTexts, IsBlocksText};
 ghost use Rattle.inventory_engine.specs.computed.BlocksStep.{Keeps, blocks_event};
 
 use crate::inventory::Inventory;
 use crate::sighting::put_event;
-use engine_core::{Ending, EventEngine, OfEvents, Stopped, Style, run_over, run_to_stop};
+use engine_core::{Ending, EventEngine, Stopped, Style, run_events};
 use known_core::Runs;
-use list_core::{
-    Event, EventLines, InputFault, ItemFault, ItemReader, ListCause, ReadItems, Sink, Source,
-};
+use list_core::{Event, EventLines, InputFault, ItemReader, ReadItems, Sink, Source};
 use object_core::{Form, Heading, LastObject};
 use std::alloc::{AllocError, Allocator};
 use text_core::LastLine;
@@ -85,37 +81,13 @@ pub fn blocks<A: Allocator + Copy, R: Source, W: Sink>(
     ensures read_fault { result.0 ≡ Ending.ReadFault → R.ending result.1 ≡ InputEnd.Failed }
     ensures fault { W.failed writer.new ≡ is_write_fault result.0 }
 {
-    blocks_to_stop(alloc, reader, writer).into_source()
-}
-
-/// As `blocks`, and hands out the fault by which it ended, and the reader of the events.
-#[inline(never)]
-pub fn blocks_to_stop<A: Allocator + Copy, R: Source, W: Sink>(
-    alloc: A,
-    reader: R,
-    writer: &mut W,
-) -> Stopped<ItemReader<R, EventLines>, ItemFault<ListCause>>
-    requires open { R.ending reader ≡ InputEnd.Open }
-    requires works { W.failed writer.old ≡ false }
-    ensures text { (given : List ℕ) × GivesOctets (R.left reader) (item_state R.left R.ending result.reader).left given
-        × OfKind (IsBlocksText {A = A}) (λ t. Leaves (list_input event_rules First) (exactly t) result.ending result.fault (item_state R.left R.ending result.reader).ending given (W.contents writer.old) (W.contents writer.new)) }
-    ensures read_fault { result.ending ≡ Ending.ReadFault → (item_state R.left R.ending result.reader).ending ≡ InputEnd.Failed }
-    ensures fault { W.failed writer.new ≡ is_write_fault result.ending }
-{
-    let listing = Listing {
-        alloc,
-        known: Runs::new(alloc),
-    };
-    let engine = OfEvents {
-        engine: listing,
-        style: Style::Lines(Form::Text),
-        undated: Vec::new(alloc),
-    };
-    run_to_stop(alloc, EventLines::First, engine, b"", reader, writer)
+    let events = ItemReader::new(reader, EventLines::First);
+    blocks_over(alloc, Style::Lines(Form::Text), events, writer).into_source()
 }
 
 /// As `blocks`, over any reader of events, in a style: the last line is that of the input's fault. Hands out the fault by which
 /// it ended, and the reader of the events.
+#[inline(always)]
 pub fn blocks_over<
     A: Allocator + Copy,
     F: InputFault + LastLine + LastObject + Drop,
@@ -131,10 +103,5 @@ pub fn blocks_over<
         alloc,
         known: Runs::new(alloc),
     };
-    let engine = OfEvents {
-        engine: listing,
-        style,
-        undated: Vec::new(alloc),
-    };
-    run_over(alloc, engine, b"", events, writer)
+    run_events(alloc, style, listing, events, writer)
 }

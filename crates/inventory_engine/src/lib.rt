@@ -10,4 +10,4 @@ mod pieces;
 mod sighting;
 mod stream_text;
 
-pub use crate::engine::{blocks, blocks_over, blocks_to_stop};
+pub use crate::engine::{blocks, blocks_over};

@@ -14,6 +14,7 @@ pub mod ListedItems
 pub mod BlockTexts
 pub mod ReplayLines
 pub mod CaptureReplays
+pub mod ChangesTold
 pub mod ListedTexts
 pub mod ListedBlocks
 pub mod WorkedListing

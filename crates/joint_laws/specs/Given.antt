@@ -1,5 +1,5 @@
 -- What readers give: numbers of 64 bits, and octets.
-use Rattle.std.specs.Prelude.{◌<◌, ◌^◌, ℕ, List, length, Option, Some, None}
+use Rattle.std.specs.Prelude.{◌<◌, ◌^◌, ℕ, List, length}
 use Rattle.std.specs.List.{AllByRecursion}
 use Rattle.ber_core.specs.Contents.{AreVisible}
 use Rattle.ber_core.specs.Length.{AreOctets}
@@ -7,7 +7,6 @@ use Rattle.list_core.specs.declared.event.Event.{Event}
 use Rattle.list_core.specs.declared.event.EventKind.{EventKind}
 use Rattle.list_core.specs.declared.event.EventKind.TheVariants as kinds
 use Rattle.block_core.specs.declared.block.Block.{Block}
-use Rattle.block_core.specs.Period.{IsPeriod}
 
 -- a number of 64 bits
 abbrev pub IsWide : ℕ → Type 0
@@ -34,8 +33,3 @@ pub record IsGivenBlock {A : Type 0} (b : Block A) : Type 0 where
 pub record AreGivenBlocks {A : Type 0} (blocks : List (Block A)) : Type 0 where
   pub few : IsWide (length blocks)
   pub each : AllByRecursion IsGivenBlock blocks
-
--- how many samples a second streams have, where that is given
-abbrev pub IsGivenPeriod : Option ℕ → Type 0
-IsGivenPeriod None = Unit {0}
-IsGivenPeriod (Some period) = IsPeriod period

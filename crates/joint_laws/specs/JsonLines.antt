@@ -1,5 +1,5 @@
 -- That what commands write of an event as objects is lines of JSON (RFC 8259), by the words of the kit's reader.
-use Rattle.std.specs.Prelude.{◌≡◌, ◌<◌, ℕ, Bool, List, Option, length, map}
+use Rattle.std.specs.Prelude.{◌≡◌, ◌<◌, ℕ, Bool, List, length, map}
 use Rattle.std.specs.List.{AllByRecursion, concat}
 use Rattle.list_core.specs.declared.event.Event.{Event}
 use Rattle.list_core.specs.Items.{Numbered}
@@ -14,11 +14,13 @@ use Rattle.engine_core.specs.EventsText.{EventAllows, EventText, exactly_each, f
 use Rattle.frame_engines.specs.CheckObject.{check_event_in}
 use Rattle.frame_engines.specs.ShowObject.{show_allows}
 use Rattle.exchange_engines.specs.EntryObject.{twice_object}
-use Rattle.exchange_engines.specs.ReplayText.{AreSaid, Says, entries_in}
+use Rattle.exchange_engines.specs.declared.engines.replay.ReplayManner.{ReplayManner}
+use Rattle.exchange_engines.specs.ReplayText.{AreTold, Says, entries_in}
 use Rattle.exchange_engines.specs.WatchText.{AreWatchTexts}
 use Rattle.inventory_engine.specs.BlocksText.{AreBlocksTexts}
+use Rattle.loss_core.specs.Periods.{ArePeriods, Period}
 use Rattle.loss_engine.specs.LossText.{AreLosses}
-use Rattle.joint_laws.specs.Given.{AreGivenBlocks, IsGiven, IsGivenPeriod, IsWide}
+use Rattle.joint_laws.specs.Given.{AreGivenBlocks, IsGiven, IsWide}
 
 -- the text is lines, and each of them is one value of JSON, in which no object has a name twice
 abbrev pub AreJsonLines : List ℕ → Type 0
@@ -49,9 +51,9 @@ ShowIsJson A C F = ObjectsAreJson {A = A} C F show_allows
 abbrev pub CheckIsJson : Type 0 → Type 0 → Type 0 → Type 0
 CheckIsJson A C F = ObjectsAreJson {A = A} C F (exactly_each check_event_in)
 
--- what `replay` writes of the entries that events have for these blocks
+-- what `replay` writes of the entries that events have for these blocks, in each manner
 abbrev pub ReplayIsJson : Type 0 → Type 0 → Type 0 → Type 0
-ReplayIsJson A C F = (blocks : List (Block A)) (says : Says A) → AreGivenBlocks blocks → AreSaid blocks says → ObjectsAreJson C F (entries_in blocks says)
+ReplayIsJson A C F = (manner : ReplayManner) (blocks : List (Block A)) (says : Says A) → AreGivenBlocks blocks → AreTold manner blocks says → ObjectsAreJson C F (entries_in blocks says)
 
 -- and of a block given twice
 abbrev pub TwiceIsJson : Type 0 → Type 0
@@ -79,5 +81,5 @@ pub record TextsAreJson (texts : List ItemText) : Type 0 where
 -- what `losses` writes of an input
 abbrev pub LossesAreJson : Type 0 → Type 0 → Type 0
 LossesAreJson A F =
-    (period : Option ℕ) (counted : Counted) (said : Numbered (Event A) F) (pieces : Numbered ItemText F) → IsGivenPeriod period → AllByRecursion IsGiven said.items → AreLosses period (Lines (Object counted)) said pieces
+    (periods : List Period) (counted : Counted) (said : Numbered (Event A) F) (pieces : Numbered ItemText F) → ArePeriods periods → AllByRecursion IsGiven said.items → AreLosses periods (Lines (Object counted)) said pieces
     → TextsAreJson (written_of pieces)

@@ -8,6 +8,7 @@ pub mod ListedBlocks
 pub mod CaptureReplay
 pub mod ListLaws
 pub mod OneTextLaws
+pub mod ChangesLaws
 pub mod PublishedLaws
 pub mod JsonText
 pub mod Given

@@ -1,5 +1,5 @@
 -- That the lines of text are had back from the objects: nothing that a text says is lost.
-use Rattle.std.specs.Prelude.{◌≡◌, ◌<◌, ℕ, Bool, List, [], ◌++◌, Option, Some, length, slice_get}
+use Rattle.std.specs.Prelude.{◌≡◌, ◌<◌, ℕ, Bool, List, [], ◌++◌, Some, length, slice_get}
 use Rattle.std.specs.List.{AllByRecursion}
 use Rattle.list_core.specs.declared.event.Event.{Event}
 use Rattle.list_core.specs.Items.{Numbered}
@@ -17,11 +17,13 @@ use Rattle.engine_core.specs.EventsText.{EventAllows, EventText, exactly_each, f
 use Rattle.frame_engines.specs.CheckObject.{check_event_in}
 use Rattle.frame_engines.specs.ShowObject.{show_allows}
 use Rattle.exchange_engines.specs.EntryObject.{twice_object}
-use Rattle.exchange_engines.specs.ReplayText.{AreSaid, Says, entries_in, twice_line}
+use Rattle.exchange_engines.specs.declared.engines.replay.ReplayManner.{ReplayManner}
+use Rattle.exchange_engines.specs.ReplayText.{AreTold, Says, entries_in, twice_line}
 use Rattle.exchange_engines.specs.WatchText.{AreWatchTexts}
 use Rattle.inventory_engine.specs.BlocksText.{AreBlocksTexts}
+use Rattle.loss_core.specs.Periods.{ArePeriods, Period}
 use Rattle.loss_engine.specs.LossText.{AreLosses}
-use Rattle.joint_laws.specs.Given.{AreGivenBlocks, IsGiven, IsGivenPeriod, IsWide}
+use Rattle.joint_laws.specs.Given.{AreGivenBlocks, IsGiven, IsWide}
 use Rattle.joint_laws.specs.JsonLines.{written_of}
 
 -- a function gives these lines of these objects, whatever text follows them
@@ -56,15 +58,15 @@ pub record GivesTexts (back : List ℕ → List ℕ) (objects lines : List ItemT
 -- of what `losses` writes of an input as objects, of its events and at its end, it gives what it writes as lines
 abbrev pub GivesLosses : Type 0 → Type 0 → (List ℕ → List ℕ) → Type 0
 GivesLosses A F back =
-    (period : Option ℕ) (counted : Counted) (said : Numbered (Event A) F) (objects lines : Numbered ItemText F) → IsGivenPeriod period → AllByRecursion IsGiven said.items →
-    AreLosses period (Lines (Object counted)) said objects → AreLosses period (Lines Text) said lines → GivesTexts back (written_of objects) (written_of lines)
+    (periods : List Period) (counted : Counted) (said : Numbered (Event A) F) (objects lines : Numbered ItemText F) → ArePeriods periods → AllByRecursion IsGiven said.items →
+    AreLosses periods (Lines (Object counted)) said objects → AreLosses periods (Lines Text) said lines → GivesTexts back (written_of objects) (written_of lines)
 
 -- it does so for each command, and of the last line too, of a fault of the input or of a block given twice
 pub record GivesAllLines (A C F : Type 0) (back : List ℕ → List ℕ) : Type 0 where
   pub of_nothing : back [] ≡ []
   pub show : GivesLines {A = A} C F back show_allows
   pub check : GivesLines {A = A} C F back (exactly_each check_event_in)
-  pub replay : (blocks : List (Block A)) (says : Says A) → AreGivenBlocks blocks → AreSaid blocks says → GivesLines C F back (entries_in blocks says)
+  pub replay : (manner : ReplayManner) (blocks : List (Block A)) (says : Says A) → AreGivenBlocks blocks → AreTold manner blocks says → GivesLines C F back (entries_in blocks says)
   pub watch : (period : ℕ) (id : List ℕ) (texts : Form → EventText A) → IsWide period → AreWatchTexts period id texts → GivesLines C F back (exactly_each texts)
   pub blocks : (texts : Form → EventText A) → AreBlocksTexts texts → GivesLines C F back (exactly_each texts)
   pub losses : GivesLosses A F back

@@ -5,6 +5,7 @@ ghost use Rattle.list_core.specs.Items.{Listing};
 ghost use Rattle.engine_core.specs.EngineText.{IsPlain, Text, last_text};
 ghost use Rattle.engine_core.specs.computed.WholeText.{whole_text, told};
 ghost use Rattle.joint_laws.specs.CaptureReplay.{CapturesAreReplayed};
+ghost use Rattle.joint_laws.specs.ChangesLaws.{ChangesKeepTurns};
 ghost use Rattle.joint_laws.specs.ListLaws.{PublishedListsReplay, WrittenListsReplay};
 ghost use Rattle.joint_laws.specs.ListedBlocks.{ListedBlocksAreApart, ListedBlocksFit, ReplaysWriteEntries};
 ghost use Rattle.joint_laws.specs.OneTextLaws.{BlocksTextsAreOne, PublishTextsAreOne, ReplayTextsAreOne, WatchTextsAreOne};
@@ -63,6 +64,12 @@ pub fn publish_texts_are_one<A: Allocator>()
 /// one.
 pub fn replays_write_entries<A: Allocator>()
     ensures { ReplaysWriteEntries A }
+{}
+
+/// With changes alone a replay tells of each event the actions, the expiries and the switches that it tells without, and of the
+/// other entries those that are changes: no entry is told of another event, and none in another order.
+pub fn changes_keep_turns<A: Allocator>()
+    ensures { ChangesKeepTurns A }
 {}
 
 /// Of a capture of any length a replay writes the lines of the entries that its events have, each with the number of its packet,

@@ -8,3 +8,4 @@ pub mod AddUp
 pub mod Totals
 pub mod SampleTotals
 pub mod Once
+pub mod PeriodLemmas

@@ -7,4 +7,5 @@ pub mod Stream
 pub mod StreamLaws
 pub mod StreamTotals
 pub mod Findings
+pub mod Periods
 pub mod computed

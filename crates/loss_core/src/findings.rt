@@ -1,6 +1,6 @@
 //! What is told of a frame and of a sample.
 
-ghost use Rattle.std.specs.Prelude.{◌≡◌, ◌<◌, ◌≤◌, ◌++◌, ℕ, Some, [], IsTrue, if◌then◌else◌, option_to_list};
+ghost use Rattle.std.specs.Prelude.{◌≡◌, ◌<◌, ◌≤◌, ◌++◌, ℕ, Option, Some, [], IsTrue, if◌then◌else◌, option_to_list};
 ghost use Rattle.loss_core.specs.declared.finding.Finding.TheVariants.{Late, Restarted};
 ghost use Rattle.loss_core.specs.Findings.{came_told, count_told, first_missing as first_is, frame_findings, frames_told, missing_told, silence as silence_is, standing_told, states_told, synch_told};
 ghost use Rattle.loss_core.specs.Sender.{was_silent};
@@ -188,8 +188,8 @@ pub fn findings_of_sample(
 
 // Whether what a sample's count is tells nothing, as nearly every one.
 #[inline(always)]
-fn is_came_quiet(period: u32, count: u16, came: Came) -> bool
-    ensures { IsTrue result → came_told period count came ≡ [] }
+fn is_came_quiet(count: u16, came: Came) -> bool
+    ensures { IsTrue result → (period : ℕ) → came_told period count came ≡ [] }
 {
     match came {
         Came::First => true,
@@ -199,17 +199,14 @@ fn is_came_quiet(period: u32, count: u16, came: Came) -> bool
     }
 }
 
-// Whether a sample's count tells nothing, where a period is given or not.
+// Whether a sample's count tells nothing, whatever its period is.
 #[inline(always)]
-fn is_count_quiet(period: Option<u32>, count: u16, came: Option<Came>) -> bool
-    ensures { IsTrue result → count_told period count came ≡ [] }
+fn is_count_quiet(count: u16, came: Option<Came>) -> bool
+    ensures { IsTrue result → (period : Option ℕ) → count_told period count came ≡ [] }
 {
-    match period {
+    match came {
         None => true,
-        Some(period) => match came {
-            None => true,
-            Some(came) => is_came_quiet(period, count, came),
-        },
+        Some(came) => is_came_quiet(count, came),
     }
 }
 
@@ -224,16 +221,10 @@ fn is_synch_quiet(before: Option<u8>, synch: u8) -> bool
     }
 }
 
-/// Whether a sample tells nothing, as nearly every one. Where it does not say so, `findings_of_sample` says what there is.
+/// Whether a sample tells nothing, as nearly every one, whatever its period is. Where it does not say so, `findings_of_sample` says what there is.
 #[inline(always)]
-pub fn is_sample_quiet(
-    period: Option<u32>,
-    count: u16,
-    came: Option<Came>,
-    before: Option<u8>,
-    synch: u8,
-) -> bool
-    ensures { IsTrue result → count_told period count came ++ synch_told before synch ≡ [] }
+pub fn is_sample_quiet(count: u16, came: Option<Came>, before: Option<u8>, synch: u8) -> bool
+    ensures { IsTrue result → (period : Option ℕ) → count_told period count came ++ synch_told before synch ≡ [] }
 {
-    is_count_quiet(period, count, came) && is_synch_quiet(before, synch)
+    is_count_quiet(count, came) && is_synch_quiet(before, synch)
 }

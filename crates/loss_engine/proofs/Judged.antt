@@ -13,9 +13,10 @@ use Rattle.engine_core.specs.declared.style.Style.{Style}
 use Rattle.engine_core.specs.EngineText.{ItemText}
 use Rattle.engine_core.specs.Input.{Input, IsRead, TellsNext}
 use Rattle.engine_core.proofs.InputRuns.{GivenSo}
+use Rattle.loss_core.specs.Periods.{Period}
 use Rattle.loss_engine.specs.LossWants.{ArePiecesRead, KeepsBehind, StandsBehind}
 use Rattle.loss_engine.specs.declared.losing.Losing.{Losing}
-use Rattle.loss_engine.specs.computed.Judging.{ClosesAt, line, wants, last, EndsEvents, FailsNext, GoesOnClosing, Judges, JudgesBy, LacksNext, SameSetting, TellsEventNext, closing_of, events_of, kept_of, period_of}
+use Rattle.loss_engine.specs.computed.Judging.{ClosesAt, line, wants, last, EndsEvents, FailsNext, GoesOnClosing, Judges, JudgesBy, LacksNext, SameSetting, TellsEventNext, closing_of, events_of, kept_of, periods_of}
 use Rattle.loss_engine.specs.computed.Tracking.{Kept, closings, keep, keep_all, numbered_all, piece_by, pieces_by, pieces_onward, shows_new, sights_by}
 use Rattle.loss_engine.specs.computed.Wanting.{Wanting, by_input, by_new, by_text}
 
@@ -28,14 +29,14 @@ rest n style k at = drop at (numbered_all n (closings style k))
 rest_eq : (n m : ℕ) (style other : Style) (k l : Kept) (at : ℕ) → n ≡ m → style ≡ other → k ≡ l → rest n style k at ≡ rest m other l at
 rest_eq n m style other k l at p q r = cc
 
-pieces_eq : {A : Type 0} (period other_period : Option ℕ) (style other : Style) (k l : Kept) (es : List (ℕ × Event A)) → period ≡ other_period → style ≡ other → k ≡ l → pieces_by period style k es ≡ pieces_by other_period other l es
-pieces_eq period other_period style other k l es p q r = ap₂ (λ x y. pieces_by x y k es) p q ∙ ap (λ x. pieces_by other_period other x es) r
+pieces_eq : {A : Type 0} (periods other_periods : List Period) (style other : Style) (k l : Kept) (es : List (ℕ × Event A)) → periods ≡ other_periods → style ≡ other → k ≡ l → pieces_by periods style k es ≡ pieces_by other_periods other l es
+pieces_eq periods other_periods style other k l es p q r = ap₂ (λ x y. pieces_by x y k es) p q ∙ ap (λ x. pieces_by other_periods other x es) r
 
-piece_eq : {A : Type 0} (period other_period : Option ℕ) (style other : Style) (k : Kept) (e : ℕ × Event A) → period ≡ other_period → style ≡ other → piece_by period style k e ≡ piece_by other_period other k e
-piece_eq period other_period style other k e p q = ap₂ (λ x y. piece_by x y k e) p q
+piece_eq : {A : Type 0} (periods other_periods : List Period) (style other : Style) (k : Kept) (e : ℕ × Event A) → periods ≡ other_periods → style ≡ other → piece_by periods style k e ≡ piece_by other_periods other k e
+piece_eq periods other_periods style other k e p q = ap₂ (λ x y. piece_by x y k e) p q
 
-keep_eq : {A : Type 0} (period other_period : Option ℕ) (k l : Kept) (es : List (ℕ × Event A)) → period ≡ other_period → k ≡ l → keep_all period k es ≡ keep_all other_period l es
-keep_eq period other_period k l es p r = ap₂ (λ x y. keep_all x y es) p r
+keep_eq : {A : Type 0} (periods other_periods : List Period) (k l : Kept) (es : List (ℕ × Event A)) → periods ≡ other_periods → k ≡ l → keep_all periods k es ≡ keep_all other_periods l es
+keep_eq periods other_periods k l es p r = ap₂ (λ x y. keep_all x y es) p r
 
 -- an item of a list at a position, and what stands from there on
 drop_there : {X : Type 0} (xs : List X) (at : ℕ) (x : X) → slice_get xs at ≡ Some x → drop at xs ≡ x ∷ drop (at + 1) xs
@@ -101,7 +102,7 @@ module _ {I A F : Type 0} (answers : I → AnswerOf (Event A) F → I → Type 0
     closes = c.closes;
     same = c.same ∙ same;
     keeps = c.keeps ∙ o.keeps;
-    setting = record { period = c.setting.period ∙ setting.period; style = c.setting.style ∙ setting.style };
+    setting = record { periods = c.setting.periods ∙ setting.periods; style = c.setting.style ∙ setting.style };
     parts =
         rest_there (number (events_of s)) s.style (kept_of s) at o.w o.there
         ∙ ap₂ (λ (x : ℕ × ItemText) xs. x ∷ xs) (ap (λ m. (number m, o.w)) (sym same) ∙ sym o.is)
@@ -111,7 +112,7 @@ module _ {I A F : Type 0} (answers : I → AnswerOf (Event A) F → I → Type 0
 
   closed_gave : (s b : Losing I A) (at : ℕ) (ps : List (ℕ × ItemText)) → closing_of s ≡ Some at → Gave judges s ps b → Closed s b at ps
   unfolding Gave
-  closed_gave s b at [] is same = subst (λ x. Closed s x at []) same (record { behind = at; closes = is; same = refl; keeps = refl; setting = record { period = refl; style = refl }; parts = refl })
+  closed_gave s b at [] is same = subst (λ x. Closed s x at []) same (record { behind = at; closes = is; same = refl; keeps = refl; setting = record { periods = refl; style = refl }; parts = refl })
   closed_gave s b at (p ∷ ps) is (next, j, gave) =
       let g : GoesOnClosing {F = F} number at s (Ok (Some p)) next = subst (λ o. JudgesBy answers number o s (Ok (Some p)) next) is j.0 in
       let o = closes_one s next at p g.closes in
@@ -122,8 +123,8 @@ module _ {I A F : Type 0} (answers : I → AnswerOf (Event A) F → I → Type 0
     events : List (ℕ × Event A)
     opens : closing_of b ≡ None
     gave : Gave answers (events_of s) events (events_of b)
-    told : ps ≡ pieces_by (period_of s) s.style (kept_of s) events
-    keeps : kept_of b ≡ keep_all (period_of s) (kept_of s) events
+    told : ps ≡ pieces_by (periods_of s) s.style (kept_of s) events
+    keeps : kept_of b ≡ keep_all (periods_of s) (kept_of s) events
     setting : SameSetting s b
 
   -- or they ended, and lines at the end were answered
@@ -134,10 +135,10 @@ module _ {I A F : Type 0} (answers : I → AnswerOf (Event A) F → I → Type 0
     closes : closing_of b ≡ Some behind
     gave : Gave answers (events_of s) events before
     ended : answers before (Ok None) (events_of b)
-    keeps : kept_of b ≡ keep_all (period_of s) (kept_of s) events
+    keeps : kept_of b ≡ keep_all (periods_of s) (kept_of s) events
     setting : SameSetting s b
     lines : List (ℕ × ItemText)
-    told : ps ≡ pieces_by (period_of s) s.style (kept_of s) events ++ lines
+    told : ps ≡ pieces_by (periods_of s) s.style (kept_of s) events ++ lines
     parts : rest (number (events_of b)) s.style (kept_of b) 0 ≡ lines ++ rest (number (events_of b)) s.style (kept_of b) behind
 
   abbrev Came : Losing I A → Losing I A → List (ℕ × ItemText) → Type 0
@@ -150,9 +151,9 @@ module _ {I A F : Type 0} (answers : I → AnswerOf (Event A) F → I → Type 0
     events = t.event ∷ c.events;
     opens = c.opens;
     gave = (events_of next, t.reads, c.gave);
-    told = let first : p ≡ (t.event.0, piece_by (period_of s) s.style (kept_of s) t.event) = (let e = t.told in cc) in ap₂ (λ (x : ℕ × ItemText) xs. x ∷ xs) first (c.told ∙ pieces_eq _ _ _ _ _ _ c.events set.period set.style t.keeps);
-    keeps = c.keeps ∙ keep_eq _ _ _ _ c.events set.period t.keeps;
-    setting = record { period = c.setting.period ∙ set.period; style = c.setting.style ∙ set.style };
+    told = let first : p ≡ (t.event.0, piece_by (periods_of s) s.style (kept_of s) t.event) = (let e = t.told in cc) in ap₂ (λ (x : ℕ × ItemText) xs. x ∷ xs) first (c.told ∙ pieces_eq _ _ _ _ _ _ c.events set.periods set.style t.keeps);
+    keeps = c.keeps ∙ keep_eq _ _ _ _ c.events set.periods t.keeps;
+    setting = record { periods = c.setting.periods ∙ set.periods; style = c.setting.style ∙ set.style };
   })
   came_more s next b p ps t set (inr c) = inr (record {
     events = t.event ∷ c.events;
@@ -161,10 +162,10 @@ module _ {I A F : Type 0} (answers : I → AnswerOf (Event A) F → I → Type 0
     closes = c.closes;
     gave = (events_of next, t.reads, c.gave);
     ended = c.ended;
-    keeps = c.keeps ∙ keep_eq _ _ _ _ c.events set.period t.keeps;
-    setting = record { period = c.setting.period ∙ set.period; style = c.setting.style ∙ set.style };
+    keeps = c.keeps ∙ keep_eq _ _ _ _ c.events set.periods t.keeps;
+    setting = record { periods = c.setting.periods ∙ set.periods; style = c.setting.style ∙ set.style };
     lines = c.lines;
-    told = let first : p ≡ (t.event.0, piece_by (period_of s) s.style (kept_of s) t.event) = (let e = t.told in cc) in ap₂ (λ (x : ℕ × ItemText) xs. x ∷ xs) first (c.told ∙ ap (λ xs. xs ++ c.lines) (pieces_eq _ _ _ _ _ _ c.events set.period set.style t.keeps));
+    told = let first : p ≡ (t.event.0, piece_by (periods_of s) s.style (kept_of s) t.event) = (let e = t.told in cc) in ap₂ (λ (x : ℕ × ItemText) xs. x ∷ xs) first (c.told ∙ ap (λ xs. xs ++ c.lines) (pieces_eq _ _ _ _ _ _ c.events set.periods set.style t.keeps));
     parts =
         rest_eq _ _ _ _ _ _ 0 refl (sym set.style) refl ∙ c.parts ∙ ap (λ xs. c.lines ++ xs) (rest_eq _ _ _ _ _ _ c.behind refl set.style refl);
   })
@@ -183,7 +184,7 @@ module _ {I A F : Type 0} (answers : I → AnswerOf (Event A) F → I → Type 0
         gave = refl;
         ended = subst (λ (x : I). answers (events_of s) (Ok None) x) (sym c.same) e.reads;
         keeps = c.keeps ∙ o.keeps;
-        setting = record { period = c.setting.period ∙ set.period; style = c.setting.style ∙ set.style };
+        setting = record { periods = c.setting.periods ∙ set.periods; style = c.setting.style ∙ set.style };
         lines = p ∷ ps;
         told = refl;
         parts =
@@ -195,7 +196,7 @@ module _ {I A F : Type 0} (answers : I → AnswerOf (Event A) F → I → Type 0
 
   came : (s b : Losing I A) (ps : List (ℕ × ItemText)) → closing_of s ≡ None → Gave judges s ps b → Came s b ps
   unfolding Gave
-  came s b [] is same = subst (λ x. Came s x []) same (inl (record { events = []; opens = is; gave = refl; told = refl; keeps = refl; setting = record { period = refl; style = refl } }))
+  came s b [] is same = subst (λ x. Came s x []) same (inl (record { events = []; opens = is; gave = refl; told = refl; keeps = refl; setting = record { periods = refl; style = refl } }))
   came s b (p ∷ ps) is (next, j, gave) =
       elim (subst (λ o. JudgesBy answers number o s (Ok (Some p)) next) is j.0) [
         | inl t ↦ came_more s next b p ps t j.1 (came next b ps t.goes_on gave)
@@ -232,15 +233,15 @@ module _ {I A F : Type 0} (answers : I → AnswerOf (Event A) F → I → Type 0
 
   -- ---- what the input says of it
 
-  pieces_put : (period : Option ℕ) (style : Style) (n : ℕ) (k : Kept) (es : List (ℕ × Event A)) (onward : Numbered (Event A) F) →
-      pieces_onward period style n k (put_items es onward) ≡ put_items (pieces_by period style k es) (pieces_onward period style n (keep_all period k es) onward)
-  pieces_put period style n k [] onward = refl
-  pieces_put period style n k (e ∷ es) onward = ap (put_item (e.0, piece_by period style k e)) (pieces_put period style n (keep period k e.1) es onward)
+  pieces_put : (periods : List Period) (style : Style) (n : ℕ) (k : Kept) (es : List (ℕ × Event A)) (onward : Numbered (Event A) F) →
+      pieces_onward periods style n k (put_items es onward) ≡ put_items (pieces_by periods style k es) (pieces_onward periods style n (keep_all periods k es) onward)
+  pieces_put periods style n k [] onward = refl
+  pieces_put periods style n k (e ∷ es) onward = ap (put_item (e.0, piece_by periods style k e)) (pieces_put periods style n (keep periods k e.1) es onward)
 
   -- a piece for each event
-  pieces_size : (period : Option ℕ) (style : Style) (k : Kept) (es : List (ℕ × Event A)) → length (pieces_by period style k es) ≡ length es
-  pieces_size period style k [] = refl
-  pieces_size period style k (e ∷ es) = ap suc (pieces_size period style (keep period k e.1) es)
+  pieces_size : (periods : List Period) (style : Style) (k : Kept) (es : List (ℕ × Event A)) → length (pieces_by periods style k es) ≡ length es
+  pieces_size periods style k [] = refl
+  pieces_size periods style k (e ∷ es) = ap suc (pieces_size periods style (keep periods k e.1) es)
 
   module _ {C : Type 0} (input : Input (Event A) C F) (z : InputEnd) (s b after : Losing I A) (old new : Option (List ℕ))
       (reads : (before : I) (es : List (ℕ × Event A)) (raw : AnswerOf (Event A) F) → Gave answers (events_of s) es before → answers before raw (events_of after) → GivenSo old new (λ given. IsRead input z given es raw)) where
@@ -253,32 +254,32 @@ module _ {I A F : Type 0} (answers : I → AnswerOf (Event A) F → I → Type 0
       events = c.events;
       answer = raw;
       is_read = r;
-      of_events = inl (sym (pieces_size (period_of s) s.style (kept_of s) c.events) ∙ ap length (sym c.told));
+      of_events = inl (sym (pieces_size (periods_of s) s.style (kept_of s) c.events) ∙ ap length (sym c.told));
     }
 
     -- the pieces of what the input says
     abbrev all_pieces : List ℕ → Numbered ItemText F
-    all_pieces given = pieces_onward (period_of s) s.style (number (events_of after)) (kept_of s) (said given)
+    all_pieces given = pieces_onward (periods_of s) s.style (number (events_of after)) (kept_of s) (said given)
 
     -- what memory may be wanted for
     abbrev MayWant : List ℕ → List (ℕ × ItemText) → Type 0
-    MayWant given ps = Wanting (period_of s) s.style (kept_of s) (KeepsBehind input z given) (said given) (all_pieces given) ps
+    MayWant given ps = Wanting (periods_of s) s.style (kept_of s) (KeepsBehind input z given) (said given) (all_pieces given) ps
 
     abbrev Reads : List (ℕ × ItemText) → AnswerOf ItemText F → Type 0
     Reads ps answer = GivenSo old new (λ given. ArePiecesRead input z given (all_pieces given) (MayWant given) ps answer)
 
     all_put : (given : List ℕ) (es : List (ℕ × Event A)) (onward : Numbered (Event A) F) → said given ≡ put_items es onward →
-        all_pieces given ≡ put_items (pieces_by (period_of s) s.style (kept_of s) es) (pieces_onward (period_of s) s.style (number (events_of after)) (keep_all (period_of s) (kept_of s) es) onward)
-    all_put given es onward h = ap (λ l. pieces_onward (period_of s) s.style (number (events_of after)) (kept_of s) l) h ∙ pieces_put (period_of s) s.style (number (events_of after)) (kept_of s) es onward
+        all_pieces given ≡ put_items (pieces_by (periods_of s) s.style (kept_of s) es) (pieces_onward (periods_of s) s.style (number (events_of after)) (keep_all (periods_of s) (kept_of s) es) onward)
+    all_put given es onward h = ap (λ l. pieces_onward (periods_of s) s.style (number (events_of after)) (kept_of s) l) h ∙ pieces_put (periods_of s) s.style (number (events_of after)) (kept_of s) es onward
 
     -- an event was read behind those that came
     read_event : (ps : List (ℕ × ItemText)) (answer : AnswerOf ItemText F) (c : CameOpen s b ps) (e : ℕ × Event A) (given : List ℕ) (onward others : Numbered (Event A) F) → said given ≡ put_items c.events onward → onward ≡ put_item e others →
-        all_pieces given ≡ put_items ps (put_item (e.0, piece_by (period_of s) s.style (kept_of b) e) (pieces_onward (period_of s) s.style (number (events_of after)) (keep (period_of s) (kept_of b) e.1) others))
+        all_pieces given ≡ put_items ps (put_item (e.0, piece_by (periods_of s) s.style (kept_of b) e) (pieces_onward (periods_of s) s.style (number (events_of after)) (keep (periods_of s) (kept_of b) e.1) others))
     read_event ps answer c e given onward others says next =
         all_put given c.events onward says
         ∙ ap₂ (λ xs (l : Numbered ItemText F). put_items xs l) (sym c.told)
-        (ap (λ (l : Numbered (Event A) F). pieces_onward (period_of s) s.style (number (events_of after)) (keep_all (period_of s) (kept_of s) c.events) l) next
-        ∙ ap (λ (k : Kept). pieces_onward (period_of s) s.style (number (events_of after)) k (put_item e others)) (sym c.keeps))
+        (ap (λ (l : Numbered (Event A) F). pieces_onward (periods_of s) s.style (number (events_of after)) (keep_all (periods_of s) (kept_of s) c.events) l) next
+        ∙ ap (λ (k : Kept). pieces_onward (periods_of s) s.style (number (events_of after)) k (put_item e others)) (sym c.keeps))
 
     -- what it told was answered
     from_told : (ps : List (ℕ × ItemText)) (answer : AnswerOf ItemText F) → CameOpen s b ps → TellsEventNext answers b answer after → Reads ps answer
@@ -290,8 +291,8 @@ module _ {I A F : Type 0} (answers : I → AnswerOf (Event A) F → I → Type 0
           record {
             onward = _;
             says = whole;
-            tells = subst (λ o. TellsNext o (put_item (t.event.0, piece_by (period_of s) s.style (kept_of b) t.event) (pieces_onward (period_of s) s.style (number (events_of after)) (keep (period_of s) (kept_of b) t.event.1) r.2.tells.0)))
-                (ap (λ w. Ok (Some (t.event.0, w))) (sym (piece_eq _ _ _ _ (kept_of b) t.event c.setting.period c.setting.style)) ∙ sym t.told) (_, refl);
+            tells = subst (λ o. TellsNext o (put_item (t.event.0, piece_by (periods_of s) s.style (kept_of b) t.event) (pieces_onward (periods_of s) s.style (number (events_of after)) (keep (periods_of s) (kept_of b) t.event.1) r.2.tells.0)))
+                (ap (λ w. Ok (Some (t.event.0, w))) (sym (piece_eq _ _ _ _ (kept_of b) t.event c.setting.periods c.setting.style)) ∙ sym t.told) (_, refl);
             stands = as_many r.0 ps c (Ok (Some t.event)) r.2;
             wants = λ none. let e = t.told in cc;
           },
@@ -307,20 +308,20 @@ module _ {I A F : Type 0} (answers : I → AnswerOf (Event A) F → I → Type 0
           record {
             onward = _;
             says = whole;
-            tells = subst (λ o. TellsNext o (put_item (t.event.0, piece_by (period_of s) s.style (kept_of b) t.event) (pieces_onward (period_of s) s.style (number (events_of after)) (keep (period_of s) (kept_of b) t.event.1) r.2.tells.0)))
+            tells = subst (λ o. TellsNext o (put_item (t.event.0, piece_by (periods_of s) s.style (kept_of b) t.event) (pieces_onward (periods_of s) s.style (number (events_of after)) (keep (periods_of s) (kept_of b) t.event.1) r.2.tells.0)))
                 (sym t.lacks) tt;
             stands = as_many r.0 ps c (Ok (Some t.event)) r.2;
             wants = λ none. elim t.wants [
               | inl new ↦ by_new c.events t.event r.2.tells.0 c.told (r.2.says ∙ ap (put_items c.events) r.2.tells.1) (subst (λ (k : Kept). shows_new k.tracked (sights_by k t.event.1) ≡ true) c.keeps new)
-              | inr some ↦ by_text (t.event.0, piece_by (period_of s) s.style (kept_of b) t.event) _ whole (λ empty. some (ap (λ (w : ItemText). w.text) (piece_eq _ _ _ _ (kept_of b) t.event c.setting.period c.setting.style) ∙ empty))
+              | inr some ↦ by_text (t.event.0, piece_by (periods_of s) s.style (kept_of b) t.event) _ whole (λ empty. some (ap (λ (w : ItemText). w.text) (piece_eq _ _ _ _ (kept_of b) t.event c.setting.periods c.setting.style) ∙ empty))
             ];
           },
         )
 
     -- what is said of an answer without an event, and then of what is answered
-    tells_why : (k : Kept) (why : Option F) (onward : Numbered (Event A) F) → TellsNext (Err why) onward → TellsNext (Err why) (pieces_onward (period_of s) s.style (number (events_of after)) k onward)
+    tells_why : (k : Kept) (why : Option F) (onward : Numbered (Event A) F) → TellsNext (Err why) onward → TellsNext (Err why) (pieces_onward (periods_of s) s.style (number (events_of after)) k onward)
     tells_why k None onward h = tt
-    tells_why k (Some f) onward h = ap (λ (l : Numbered (Event A) F). pieces_onward (period_of s) s.style (number (events_of after)) k l) h
+    tells_why k (Some f) onward h = ap (λ (l : Numbered (Event A) F). pieces_onward (periods_of s) s.style (number (events_of after)) k l) h
 
     why_none : (why : Option F) (answer : AnswerOf ItemText F) → answer ≡ Err why → answer ≡ Err None → why ≡ None
     why_none why answer h none = cc
@@ -332,18 +333,18 @@ module _ {I A F : Type 0} (answers : I → AnswerOf (Event A) F → I → Type 0
           r.0,
           r.1,
           record {
-            onward = pieces_onward (period_of s) s.style (number (events_of after)) (keep_all (period_of s) (kept_of s) c.events) r.2.onward;
-            says = all_put r.0 c.events r.2.onward r.2.says ∙ ap (λ xs. put_items xs (pieces_onward (period_of s) s.style (number (events_of after)) (keep_all (period_of s) (kept_of s) c.events) r.2.onward)) (sym c.told);
-            tells = subst (λ o. TellsNext o (pieces_onward (period_of s) s.style (number (events_of after)) (keep_all (period_of s) (kept_of s) c.events) r.2.onward)) (sym t.fails) (tells_why _ t.why r.2.onward r.2.tells);
+            onward = pieces_onward (periods_of s) s.style (number (events_of after)) (keep_all (periods_of s) (kept_of s) c.events) r.2.onward;
+            says = all_put r.0 c.events r.2.onward r.2.says ∙ ap (λ xs. put_items xs (pieces_onward (periods_of s) s.style (number (events_of after)) (keep_all (periods_of s) (kept_of s) c.events) r.2.onward)) (sym c.told);
+            tells = subst (λ o. TellsNext o (pieces_onward (periods_of s) s.style (number (events_of after)) (keep_all (periods_of s) (kept_of s) c.events) r.2.onward)) (sym t.fails) (tells_why _ t.why r.2.onward r.2.tells);
             stands = as_many r.0 ps c (Err t.why) r.2;
             wants = λ none. by_input c.events r.2.onward c.told r.2.says (subst (λ (w : Option F). input.stands z r.0 c.events (Err w)) (why_none t.why answer t.fails none) r.2.stands);
           },
         )
 
     -- the events have ended: what the input says behind them is the lines at the end
-    end_pieces : (k : Kept) (onward : Numbered (Event A) F) → onward ≡ stops finished → pieces_onward (period_of s) s.style (number (events_of after)) k onward ≡ record { items = rest (number (events_of after)) s.style k 0; stop = finished }
+    end_pieces : (k : Kept) (onward : Numbered (Event A) F) → onward ≡ stops finished → pieces_onward (periods_of s) s.style (number (events_of after)) k onward ≡ record { items = rest (number (events_of after)) s.style k 0; stop = finished }
     unfolding rest
-    end_pieces k onward h = ap (λ (l : Numbered (Event A) F). pieces_onward (period_of s) s.style (number (events_of after)) k l) h
+    end_pieces k onward h = ap (λ (l : Numbered (Event A) F). pieces_onward (periods_of s) s.style (number (events_of after)) k l) h
 
     -- those from a position on, as the input says them
     abbrev left_lines : Kept → ℕ → Numbered ItemText F
@@ -376,7 +377,7 @@ module _ {I A F : Type 0} (answers : I → AnswerOf (Event A) F → I → Type 0
         let r = reads (events_of b) c.events (Ok None) c.gave t.reads in
         let says : all_pieces r.0 ≡ put_items ps (left_lines (kept_of b) 0) =
         all_put r.0 c.events r.2.onward r.2.says
-        ∙ ap₂ (λ xs (l : Numbered ItemText F). put_items xs l) (sym c.told) (end_pieces (keep_all (period_of s) (kept_of s) c.events) r.2.onward r.2.tells ∙ ap (λ k. left_lines k 0) (sym c.keeps)) in (
+        ∙ ap₂ (λ xs (l : Numbered ItemText F). put_items xs l) (sym c.told) (end_pieces (keep_all (periods_of s) (kept_of s) c.events) r.2.onward r.2.tells ∙ ap (λ k. left_lines k 0) (sym c.keeps)) in (
           r.0,
           r.1,
           record {
@@ -392,15 +393,15 @@ module _ {I A F : Type 0} (answers : I → AnswerOf (Event A) F → I → Type 0
     from_closed : (ps : List (ℕ × ItemText)) (answer : AnswerOf ItemText F) (c : CameClosed s b ps) → GoesOnClosing number c.behind b answer after → Reads ps answer
     from_closed ps answer c t =
         let r = reads c.before c.events (Ok None) c.gave (subst (λ (x : I). answers c.before (Ok None) x) (sym t.same) c.ended) in
-        let size = ap length c.told ∙ length-append (pieces_by (period_of s) s.style (kept_of s) c.events) c.lines in
-        let fewer : length c.events ≤ length ps = let one_each = pieces_size (period_of s) s.style (kept_of s) c.events in omega (arith, size, one_each) in
+        let size = ap length c.told ∙ length-append (pieces_by (periods_of s) s.style (kept_of s) c.events) c.lines in
+        let fewer : length c.events ≤ length ps = let one_each = pieces_size (periods_of s) s.style (kept_of s) c.events in omega (arith, size, one_each) in
         let lines : rest (number (events_of after)) s.style (kept_of b) 0 ≡ c.lines ++ rest (number (events_of after)) s.style (kept_of b) c.behind =
         subst (λ (x : I). rest (number x) s.style (kept_of b) 0 ≡ c.lines ++ rest (number x) s.style (kept_of b) c.behind) (sym t.same) c.parts in
         let says : all_pieces r.0 ≡ put_items ps (left_lines (kept_of b) c.behind) =
         all_put r.0 c.events r.2.onward r.2.says
-        ∙ ap (λ (l : Numbered ItemText F). put_items (pieces_by (period_of s) s.style (kept_of s) c.events) l)
-        (end_pieces (keep_all (period_of s) (kept_of s) c.events) r.2.onward r.2.tells ∙ ap (λ k. left_lines k 0) (sym c.keeps) ∙ ap (λ xs. record { items = xs; stop = finished }) lines)
-        ∙ ap (λ xs. record { items = xs; stop = finished }) (sym (append_assoc (pieces_by (period_of s) s.style (kept_of s) c.events) c.lines (rest (number (events_of after)) s.style (kept_of b) c.behind)) ∙ ap (λ xs. xs ++ rest (number (events_of after)) s.style (kept_of b) c.behind) (sym c.told)) in (
+        ∙ ap (λ (l : Numbered ItemText F). put_items (pieces_by (periods_of s) s.style (kept_of s) c.events) l)
+        (end_pieces (keep_all (periods_of s) (kept_of s) c.events) r.2.onward r.2.tells ∙ ap (λ k. left_lines k 0) (sym c.keeps) ∙ ap (λ xs. record { items = xs; stop = finished }) lines)
+        ∙ ap (λ xs. record { items = xs; stop = finished }) (sym (append_assoc (pieces_by (periods_of s) s.style (kept_of s) c.events) c.lines (rest (number (events_of after)) s.style (kept_of b) c.behind)) ∙ ap (λ xs. xs ++ rest (number (events_of after)) s.style (kept_of b) c.behind) (sym c.told)) in (
           r.0,
           r.1,
           record {

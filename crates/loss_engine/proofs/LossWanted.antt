@@ -1,5 +1,5 @@
 -- For what a run of `losses` wants memory, in the words of the definitions.
-use Rattle.std.proofs.Common.{Option, Some, ◌≡◌, ◌||◌, ℕ, suc, Bool, true, false, not, is_some, List, [], ◌∷◌, ◌++◌, length, map, take, if◌then◌else◌, inl, inr, ap, refl, ◌∙◌, sym, subst}
+use Rattle.std.proofs.Common.{Some, ◌≡◌, ◌||◌, ℕ, suc, Bool, true, false, not, is_some, List, [], ◌∷◌, ◌++◌, length, map, take, if◌then◌else◌, inl, inr, ap, refl, ◌∙◌, sym, subst}
 use Rattle.std.specs.Prelude.{slice_get}
 use Rattle.std.specs.List.{list_any}
 use Rattle.std.proofs.lemmas.Bool.{false≢true, not-true, or_cases}
@@ -10,7 +10,7 @@ use Rattle.engine_core.specs.EngineText.{ItemText}
 use Rattle.loss_core.proofs.Places.{get_middle}
 use Rattle.loss_engine.specs.LossWants.{ArePiecesOf, LossWants, ShowsNew, for_input, for_new, for_text}
 use Rattle.loss_engine.specs.Sights.{Key, Sight, same_key}
-use Rattle.loss_engine.specs.computed.Entries.{IsPeriodOf}
+use Rattle.loss_core.specs.Periods.{ArePeriods, Period}
 use Rattle.loss_engine.specs.computed.Tracking.{Kept, Tracked, keep_all, kept_none, known_of, pieces_by, shows_new, sights_by}
 use Rattle.loss_engine.specs.computed.Wanting.{Wanting, by_input, by_new, by_text}
 use Rattle.loss_engine.proofs.LossLaws.{Follows, follows_all, pieces_sizes, pieces_tell_all, sights_there}
@@ -31,20 +31,20 @@ any_found test (x ∷ xs) h =
       | inr later ↦ let f = any_found test xs later in (suc f.0, f.1, f.2, f.3)
     ]
 
-module _ {A : Type 0} (period : Option ℕ) (is : IsPeriodOf period) where
-  shown_new : (before : List (ℕ × Event A)) (k : Kept) (e : ℕ × Event A) → Follows period before k → shows_new k.tracked (sights_by k e.1) ≡ true → ShowsNew before e
+module _ {A : Type 0} (periods : List Period) (in_range : ArePeriods periods) where
+  shown_new : (before : List (ℕ × Event A)) (k : Kept) (e : ℕ × Event A) → Follows periods before k → shows_new k.tracked (sights_by k e.1) ≡ true → ShowsNew before e
   shown_new before k e f h =
       let found = any_found (λ (s : Sight). not (is_some (known_of k.tracked s.key))) (sights_by k e.1) h in
       let s : Sight = found.1 in
       record {
         at = found.0;
         sight = s;
-        is = ap (λ l. slice_get l found.0) (sym (sights_there period is before k e f)) ∙ found.2;
+        is = ap (λ l. slice_get l found.0) (sym (sights_there periods in_range before k e f)) ∙ found.2;
         is_new = ap (list_any (λ j. same_key j s.key)) (sym f.stands.keys) ∙ (sym (known_is k.tracked s.key) ∙ not-true (is_some (known_of k.tracked s.key)) found.3);
       }
 
-  are_pieces : (style : Style) (events : List (ℕ × Event A)) → ArePiecesOf period style events (pieces_by period style kept_none events)
-  are_pieces style events = record { sizes = pieces_sizes period is style events kept_none; each = λ i e w p q. pieces_tell_all period is style events i e w p q }
+  are_pieces : (style : Style) (events : List (ℕ × Event A)) → ArePiecesOf periods style events (pieces_by periods style kept_none events)
+  are_pieces style events = record { sizes = pieces_sizes periods in_range style events kept_none; each = λ i e w p q. pieces_tell_all periods in_range style events i e w p q }
 
 -- ---- the events of what is written are the first that are said
 
@@ -52,22 +52,22 @@ front_all : {X : Type 0} (xs ys : List X) → take (length xs) (xs ++ ys) ≡ xs
 front_all [] ys = refl
 front_all (x ∷ xs) ys = ap (λ l. x ∷ l) (front_all xs ys)
 
-module _ {A F : Type 0} (period : Option ℕ) (is : IsPeriodOf period) (style : Style) (Keeps : List (ℕ × Event A) → Type 0) (said : Numbered (Event A) F) (pieces : Numbered ItemText F) where
-  new_wanted : (written : List (ℕ × ItemText)) (events : List (ℕ × Event A)) (next : ℕ × Event A) (others : Numbered (Event A) F) → written ≡ pieces_by period style kept_none events → said ≡ put_items events (put_item next others) →
-      ShowsNew events next → LossWants period style Keeps said pieces written
+module _ {A F : Type 0} (periods : List Period) (in_range : ArePeriods periods) (style : Style) (Keeps : List (ℕ × Event A) → Type 0) (said : Numbered (Event A) F) (pieces : Numbered ItemText F) where
+  new_wanted : (written : List (ℕ × ItemText)) (events : List (ℕ × Event A)) (next : ℕ × Event A) (others : Numbered (Event A) F) → written ≡ pieces_by periods style kept_none events → said ≡ put_items events (put_item next others) →
+      ShowsNew events next → LossWants periods style Keeps said pieces written
   new_wanted written events next others by says new =
-      let size : length written ≡ length events = ap length by ∙ pieces_sizes period is style events kept_none in
+      let size : length written ≡ length events = ap length by ∙ pieces_sizes periods in_range style events kept_none in
       let items : said.items ≡ events ++ next ∷ others.items = ap (λ (l : Numbered (Event A) F). l.items) says in
       let front : take (length written) said.items ≡ events = ap (λ n. take n said.items) size ∙ (ap (take (length events)) items ∙ front_all events (next ∷ others.items)) in
       for_new next (ap (slice_get said.items) size ∙ (ap (λ l. slice_get l (length events)) items ∙ get_middle events next others.items))
-      (subst (λ es. ArePiecesOf period style es written) (sym front) (subst (λ l. ArePiecesOf period style events l) (sym by) (are_pieces period is style events)))
+      (subst (λ es. ArePiecesOf periods style es written) (sym front) (subst (λ l. ArePiecesOf periods style events l) (sym by) (are_pieces periods in_range style events)))
       (subst (λ es. ShowsNew es next) (sym front) new)
 
-  pub loss_wants : (written : List (ℕ × ItemText)) → Wanting period style kept_none Keeps said pieces written → LossWants period style Keeps said pieces written
+  pub loss_wants : (written : List (ℕ × ItemText)) → Wanting periods style kept_none Keeps said pieces written → LossWants periods style Keeps said pieces written
   loss_wants written (by_input events others by says keeps) =
-      let size : length written ≡ length events = ap length by ∙ pieces_sizes period is style events kept_none in
+      let size : length written ≡ length events = ap length by ∙ pieces_sizes periods in_range style events kept_none in
       let front : take (length written) said.items ≡ events = ap (λ n. take n said.items) size ∙ (ap (λ (l : Numbered (Event A) F). take (length events) l.items) says ∙ front_all events others.items) in
-      for_input (subst (λ es. ArePiecesOf period style es written) (sym front) (subst (λ l. ArePiecesOf period style events l) (sym by) (are_pieces period is style events))) (subst Keeps (sym front) keeps)
+      for_input (subst (λ es. ArePiecesOf periods style es written) (sym front) (subst (λ l. ArePiecesOf periods style events l) (sym by) (are_pieces periods in_range style events))) (subst Keeps (sym front) keeps)
   loss_wants written (by_new events next others by says new) =
-      new_wanted written events next others by says (shown_new period is events (keep_all period kept_none events) next (follows_all period is events) new)
+      new_wanted written events next others by says (shown_new periods in_range events (keep_all periods kept_none events) next (follows_all periods in_range events) new)
   loss_wants written (by_text next others says some) = for_text next others says some

@@ -14,6 +14,7 @@ use Rattle.loss_core.specs.declared.sender.Arrival.{Arrival}
 use Rattle.loss_core.specs.declared.sender.Sender.{Sender}
 use Rattle.loss_core.specs.declared.sender_tally.SenderTotals.{SenderTotals}
 use Rattle.loss_core.specs.declared.stream.Sample.{Sample}
+use Rattle.loss_core.specs.Periods.{Period}
 use Rattle.loss_core.specs.Sender.{over_at}
 use Rattle.loss_core.specs.Stream.{IsKnownOf}
 use Rattle.loss_core.specs.StreamTotals.{AreStreamTotals}
@@ -26,7 +27,7 @@ use Rattle.loss_engine.specs.Findings.{TellsShown, last_of}
 use Rattle.loss_engine.specs.LossLine.{sender_total_line, stream_total_line}
 use Rattle.loss_engine.specs.LossObject.{sender_total_object, stream_total_object}
 use Rattle.loss_engine.specs.LossText.{AreLosses, ClosesBy, ClosesKey, IsClosing, TellsEvent, back_lines, closing_in, end_silent, form_of, line_of, sight_lines, sights_at, stale, styled, with_end}
-use Rattle.loss_engine.specs.Sights.{Key, Shown, Sight, frame, sample, sender, stream, frames_of, greatest_moment, keys_in, samples_of, sights_in, synchs_of}
+use Rattle.loss_engine.specs.Sights.{Key, Shown, Sight, frame, sample, sender, stream, frames_of, greatest_moment, keys_in, period_for, samples_of, sights_in, synchs_of}
 use Rattle.loss_engine.proofs.TimesBack.{back_once}
 
 -- two lists of a length are one where their items at each position are
@@ -51,11 +52,11 @@ shown_once (Some period) earlier key moment (sample count synch) fs gs u v =
     let s : Sample = record { count = count; moment = moment } in
     u.2 ∙ (ap (λ c. came_told period count c ++ synch_told (last_of (synchs_of key earlier)) synch) (sample_last_once period (samples_of key earlier) s u.0 v.0 u.1 v.1) ∙ sym v.2)
 
-event_once : {A : Type 0} (period : Option ℕ) (style : Style) (before : List (ℕ × Event A)) (e : ℕ × Event A) (w v : ItemText) → TellsEvent period style before e w → TellsEvent period style before e v → w ≡ v
-event_once period style before e w v p q =
+event_once : {A : Type 0} (periods : List Period) (style : Style) (before : List (ℕ × Event A)) (e : ℕ × Event A) (w v : ItemText) → TellsEvent periods style before e w → TellsEvent periods style before e v → w ≡ v
+event_once periods style before e w v p q =
     let same : p.findings ≡ q.findings = same_items p.findings q.findings (p.sizes ∙ sym q.sizes) (λ i fs gs x y.
     let s = there p.findings (sights_at before e) p.sizes i fs x in
-    shown_once period (sights_in before ++ take i (sights_at before e)) s.0.key s.0.moment s.0.shown fs gs (p.each i s.0 fs s.1 x) (q.each i s.0 gs s.1 y)) in
+    shown_once (period_for periods s.0.key) (sights_in before ++ take i (sights_at before e)) s.0.key s.0.moment s.0.shown fs gs (p.each i s.0 fs s.1 x) (q.each i s.0 gs s.1 y)) in
     let back : p.back ≡ q.back = back_once before e p.back q.back p.goes_back q.goes_back in
     let text : w.text ≡ v.text = p.text ∙ (ap₂ (λ b l. styled style e.1.moment (λ form. back_lines form e.0 e.1.moment b ++ sight_lines form e.0 e.1.moment (sights_at before e) l)) back same ∙ sym q.text) in
     let found : w.is_finding ≡ v.is_finding = p.found ∙ (ap₂ (λ (b : Option ℕ) (l : List (List Finding)). is_some b || list_any has_loss l) back same ∙ sym q.found) in
@@ -83,25 +84,25 @@ key_once (Some period) form seen end (stream a o i) silent total other_silent ot
       p.is_total ∙ (ap (λ t. line_of form false (stream_total_line key t) (stream_total_object key t)) totals ∙ sym q.is_total),
     )
 
-closing_once : (period : Option ℕ) (form : Form) (seen : List Sight) (end : ℕ) (xs ys : List ItemText) → IsClosing period form seen end xs → IsClosing period form seen end ys → xs ≡ ys
-closing_once period form seen end xs ys p q =
+closing_once : (periods : List Period) (form : Form) (seen : List Sight) (end : ℕ) (xs ys : List ItemText) → IsClosing periods form seen end xs → IsClosing periods form seen end ys → xs ≡ ys
+closing_once periods form seen end xs ys p q =
     let silents : p.silents ≡ q.silents = same_items p.silents q.silents (p.silents_sizes ∙ sym q.silents_sizes) (λ i s z x y.
     let key = there p.silents (keys_in seen) p.silents_sizes i s x in
     let t = there (keys_in seen) p.totals (sym p.totals_sizes) i key.0 key.1 in
     let r = there (keys_in seen) q.totals (sym q.totals_sizes) i key.0 key.1 in
-    (key_once period form seen end key.0 s t.0 z r.0 (p.each i key.0 s t.0 key.1 x t.1) (q.each i key.0 z r.0 key.1 y r.1)).0) in
+    (key_once (period_for periods key.0) form seen end key.0 s t.0 z r.0 (p.each i key.0 s t.0 key.1 x t.1) (q.each i key.0 z r.0 key.1 y r.1)).0) in
     let totals : p.totals ≡ q.totals = same_items p.totals q.totals (p.totals_sizes ∙ sym q.totals_sizes) (λ i s z x y.
     let key = there p.totals (keys_in seen) p.totals_sizes i s x in
     let t = there (keys_in seen) p.silents (sym p.silents_sizes) i key.0 key.1 in
     let r = there (keys_in seen) q.silents (sym q.silents_sizes) i key.0 key.1 in
-    (key_once period form seen end key.0 t.0 s r.0 z (p.each i key.0 t.0 s key.1 t.1 x) (q.each i key.0 r.0 z key.1 r.1 y)).1) in
+    (key_once (period_for periods key.0) form seen end key.0 t.0 s r.0 z (p.each i key.0 t.0 s key.1 t.1 x) (q.each i key.0 r.0 z key.1 r.1 y)).1) in
     p.parts ∙ (ap₂ (λ a b. a ++ b) silents totals ∙ sym q.parts)
 
-closes_once : {A F : Type 0} (period : Option ℕ) (style : Style) (stop : Stop F) (items : List (ℕ × Event A)) (xs ys : List ItemText) → ClosesBy period style stop items xs → ClosesBy period style stop items ys → xs ≡ ys
-closes_once period style finished items xs ys p q =
-    p.2 ∙ (ap (map (closing_in style)) (closing_once period (form_of style) (sights_in items) (greatest_moment items) p.0 q.0 p.1 q.1) ∙ sym q.2)
-closes_once period style unfinished items xs ys p q = p ∙ sym q
-closes_once period style (faulty f) items xs ys p q = p ∙ sym q
+closes_once : {A F : Type 0} (periods : List Period) (style : Style) (stop : Stop F) (items : List (ℕ × Event A)) (xs ys : List ItemText) → ClosesBy periods style stop items xs → ClosesBy periods style stop items ys → xs ≡ ys
+closes_once periods style finished items xs ys p q =
+    p.2 ∙ (ap (map (closing_in style)) (closing_once periods (form_of style) (sights_in items) (greatest_moment items) p.0 q.0 p.1 q.1) ∙ sym q.2)
+closes_once periods style unfinished items xs ys p q = p ∙ sym q
+closes_once periods style (faulty f) items xs ys p q = p ∙ sym q
 
 -- ---- the input
 
@@ -117,17 +118,17 @@ front zero (x ∷ xs) ys h = absurd (omega arith)
 front (suc n) [] ys h = absurd (omega arith)
 front (suc n) (x ∷ xs) ys h = ap (λ l. x ∷ l) (front n xs ys (omega arith))
 
-pub losses_once : {A F : Type 0} (period : Option ℕ) (style : Style) (said : Numbered (Event A) F) (p q : Numbered ItemText F) → AreLosses period style said p → AreLosses period style said q → AreOne said p q
-losses_once period style said p q u v =
+pub losses_once : {A F : Type 0} (periods : List Period) (style : Style) (said : Numbered (Event A) F) (p q : Numbered ItemText F) → AreLosses periods style said p → AreLosses periods style said q → AreOne said p q
+losses_once periods style said p q u v =
     let text : ℕ × ItemText → ItemText = λ w. w.1 in
     let told : u.told ≡ v.told = same_items u.told v.told (u.sizes ∙ sym v.sizes) (λ i w z x y.
     let e = there u.told said.items u.sizes i w x in
     let a = u.each i e.0 w e.1 x in
     let b = v.each i e.0 z e.1 y in
     let number : w.0 ≡ z.0 = a.0 ∙ sym b.0 in
-    let piece : w.1 ≡ z.1 = event_once period style (take i said.items) e.0 w.1 z.1 a.1 b.1 in
+    let piece : w.1 ≡ z.1 = event_once periods style (take i said.items) e.0 w.1 z.1 a.1 b.1 in
     λ j. (number j, piece j)) in
-    let closing : map text u.closing ≡ map text v.closing = closes_once period style said.stop said.items (map text u.closing) (map text v.closing) u.closes v.closes in
+    let closing : map text u.closing ≡ map text v.closing = closes_once periods style said.stop said.items (map text u.closing) (map text v.closing) u.closes v.closes in
     record {
       texts =
           ap (map text) u.parts ∙ (map-append text u.told u.closing ∙ (ap₂ (λ a b. map text a ++ b) told closing ∙ (sym (map-append text v.told v.closing) ∙ sym (ap (map text) v.parts))));

@@ -27,8 +27,9 @@ use Rattle.loss_core.proofs.SampleTotals as streams
 use Rattle.loss_core.specs.declared.finding.Finding.{Finding}
 use Rattle.loss_core.specs.Findings.{came_told, synch_told}
 use Rattle.loss_engine.specs.Findings.{TellsShown, TellsSight, last_of}
-use Rattle.loss_engine.specs.Sights.{Key, Shown, Sight, frame, sample, sender, stream, arrival_in, frames_of, keys_in, same_key, sample_in, samples_of, sight_of_asdu, sights_of, sights_read, sights_with, synch_in, synchs_of, with_key}
-use Rattle.loss_engine.specs.computed.Entries.{IsPeriodOf}
+use Rattle.loss_engine.specs.Sights.{Key, Shown, Sight, frame, sample, sender, stream, arrival_in, frames_of, keys_in, period_for, same_key, sample_in, samples_of, sight_of_asdu, sights_of, sights_read, sights_with, synch_in, synchs_of, with_key}
+use Rattle.loss_core.specs.Periods.{ArePeriods, IsPeriodOf, Period}
+use Rattle.loss_core.proofs.PeriodLemmas.{period_in_range}
 use Rattle.loss_engine.specs.computed.Tracking.{Progress, Tracked, counted, findings_all, findings_by, first_progress, frames, known_of, more_progress, samples, track, track_all}
 use Rattle.loss_engine.proofs.TrackedKeys.{Distinct, after_more, distinct_more, keys_more, keys_push, known_other, known_same, of_key_other, of_key_same, same_is, same_itself}
 
@@ -174,70 +175,75 @@ tells_by period earlier (stream a o i) known moment (sample count synch) is kind
 -- ---- all keys
 
 -- what is tracked stands after sights: its keys are theirs, each once, and of each is kept what its sights come to
-pub record Stands (period : Option ℕ) (seen : List Sight) (xs : List Tracked) : Type 0 where
+pub record Stands (periods : List Period) (seen : List Sight) (xs : List Tracked) : Type 0 where
   pub keys : map (λ (x : Tracked). x.key) xs ≡ keys_in seen
   pub distinct : Distinct xs
-  pub each : (key : Key) → Holds period key (frames_of key seen) (samples_of key seen) (synchs_of key seen) (known_of xs key)
+  pub each : (key : Key) → Holds (period_for periods key) key (frames_of key seen) (samples_of key seen) (synchs_of key seen) (known_of xs key)
 
 none_holds : (period : Option ℕ) (key : Key) → Holds period key [] [] [] None
 none_holds period (sender a r s) = refl
 none_holds period (stream a o i) = (refl, refl)
 
-pub stands_none : (period : Option ℕ) → Stands period [] []
-stands_none period = record { keys = refl; distinct = tt; each = λ key. none_holds period key }
+pub stands_none : (periods : List Period) → Stands periods [] []
+stands_none periods = record { keys = refl; distinct = tt; each = λ key. none_holds (period_for periods key) key }
 
-module _ (period : Option ℕ) (is : IsPeriodOf period) where
-  holds_same : (seen : List Sight) (xs : List Tracked) (s : Sight) → IsKind s.key s.shown → Stands period seen xs →
-      Holds period s.key (frames_of s.key (seen ++ s ∷ [])) (samples_of s.key (seen ++ s ∷ [])) (synchs_of s.key (seen ++ s ∷ [])) (known_of (track period xs s) s.key)
+-- the period of each key is in range
+pub in_range : (periods : List Period) (key : Key) → ArePeriods periods → IsPeriodOf (period_for periods key)
+in_range periods (sender a r s) are = λ n e. absurd (none-some n e)
+in_range periods (stream a o i) are = period_in_range periods i are
+
+module _ (periods : List Period) (are : ArePeriods periods) where
+  holds_same : (seen : List Sight) (xs : List Tracked) (s : Sight) → IsKind s.key s.shown → Stands periods seen xs →
+      Holds (period_for periods s.key) s.key (frames_of s.key (seen ++ s ∷ [])) (samples_of s.key (seen ++ s ∷ [])) (synchs_of s.key (seen ++ s ∷ [])) (known_of (track periods xs s) s.key)
   holds_same seen xs s kind st =
       let same : same_key s.key s.key ≡ true = same_itself s.key in
-      holds_eq period s.key _ _ _ _ _ _ _ _
+      holds_eq (period_for periods s.key) s.key _ _ _ _ _ _ _ _
       (sym (of_key_same (λ (x : Sight). arrival_in x.moment x.shown) s.key seen s same))
       (sym (of_key_same (λ (x : Sight). sample_in x.moment x.shown) s.key seen s same))
       (sym (of_key_same (λ (x : Sight). synch_in x.shown) s.key seen s same))
-      (sym (known_same xs s.key (first_progress period s.moment s.shown) (more_progress s.moment s.shown)))
-      (holds_on period s.key (frames_of s.key seen) (samples_of s.key seen) (synchs_of s.key seen) (known_of xs s.key) s.moment s.shown is kind (st.each s.key))
+      (sym (known_same xs s.key (first_progress (period_for periods s.key) s.moment s.shown) (more_progress s.moment s.shown)))
+      (holds_on (period_for periods s.key) s.key (frames_of s.key seen) (samples_of s.key seen) (synchs_of s.key seen) (known_of xs s.key) s.moment s.shown (in_range periods s.key are) kind (st.each s.key))
 
-  holds_other : (seen : List Sight) (xs : List Tracked) (s : Sight) (key : Key) → same_key s.key key ≡ false → Stands period seen xs →
-      Holds period key (frames_of key (seen ++ s ∷ [])) (samples_of key (seen ++ s ∷ [])) (synchs_of key (seen ++ s ∷ [])) (known_of (track period xs s) key)
+  holds_other : (seen : List Sight) (xs : List Tracked) (s : Sight) (key : Key) → same_key s.key key ≡ false → Stands periods seen xs →
+      Holds (period_for periods key) key (frames_of key (seen ++ s ∷ [])) (samples_of key (seen ++ s ∷ [])) (synchs_of key (seen ++ s ∷ [])) (known_of (track periods xs s) key)
   holds_other seen xs s key other st =
-      holds_eq period key _ _ _ _ _ _ _ _
+      holds_eq (period_for periods key) key _ _ _ _ _ _ _ _
       (sym (of_key_other (λ (x : Sight). arrival_in x.moment x.shown) key seen s other))
       (sym (of_key_other (λ (x : Sight). sample_in x.moment x.shown) key seen s other))
       (sym (of_key_other (λ (x : Sight). synch_in x.shown) key seen s other))
-      (sym (known_other xs s.key key (first_progress period s.moment s.shown) (more_progress s.moment s.shown) other))
+      (sym (known_other xs s.key key (first_progress (period_for periods s.key) s.moment s.shown) (more_progress s.moment s.shown) other))
       (st.each key)
 
-  pub stands_on : (seen : List Sight) (xs : List Tracked) (s : Sight) → IsKind s.key s.shown → Stands period seen xs → Stands period (seen ++ s ∷ []) (track period xs s)
+  pub stands_on : (seen : List Sight) (xs : List Tracked) (s : Sight) → IsKind s.key s.shown → Stands periods seen xs → Stands periods (seen ++ s ∷ []) (track periods xs s)
   stands_on seen xs s kind st = record {
-    keys = keys_more xs s.key (first_progress period s.moment s.shown) (more_progress s.moment s.shown) ∙ (ap (λ ks. with_key ks s.key) st.keys ∙ sym (keys_push seen s));
-    distinct = distinct_more xs s.key (first_progress period s.moment s.shown) (more_progress s.moment s.shown) st.distinct;
+    keys = keys_more xs s.key (first_progress (period_for periods s.key) s.moment s.shown) (more_progress s.moment s.shown) ∙ (ap (λ ks. with_key ks s.key) st.keys ∙ sym (keys_push seen s));
+    distinct = distinct_more xs s.key (first_progress (period_for periods s.key) s.moment s.shown) (more_progress s.moment s.shown) st.distinct;
     each = λ key. elim (cases_Bool (same_key s.key key)) [
       | inl same ↦
-          subst (λ k. Holds period k (frames_of k (seen ++ s ∷ [])) (samples_of k (seen ++ s ∷ [])) (synchs_of k (seen ++ s ∷ [])) (known_of (track period xs s) k)) (same_is s.key key same)
+          subst (λ k. Holds (period_for periods k) k (frames_of k (seen ++ s ∷ [])) (samples_of k (seen ++ s ∷ [])) (synchs_of k (seen ++ s ∷ [])) (known_of (track periods xs s) k)) (same_is s.key key same)
           (holds_same seen xs s kind st)
       | inr other ↦ holds_other seen xs s key other st
     ];
   }
 
-  pub stands_all : (seen before : List Sight) (xs : List Tracked) → AreKinds seen → Stands period before xs → Stands period (before ++ seen) (track_all period xs seen)
-  stands_all [] before xs all st = subst (λ l. Stands period l xs) (sym (append-nil before)) st
+  pub stands_all : (seen before : List Sight) (xs : List Tracked) → AreKinds seen → Stands periods before xs → Stands periods (before ++ seen) (track_all periods xs seen)
+  stands_all [] before xs all st = subst (λ l. Stands periods l xs) (sym (append-nil before)) st
   stands_all (s ∷ seen) before xs all st =
-      subst (λ l. Stands period l (track_all period (track period xs s) seen)) (append_assoc before (s ∷ []) seen)
-      (stands_all seen (before ++ s ∷ []) (track period xs s) all.1 (stands_on before xs s all.0 st))
+      subst (λ l. Stands periods l (track_all periods (track periods xs s) seen)) (append_assoc before (s ∷ []) seen)
+      (stands_all seen (before ++ s ∷ []) (track periods xs s) all.1 (stands_on before xs s all.0 st))
 
-  pub findings_tell : (seen before : List Sight) (xs : List Tracked) → AreKinds seen → Stands period before xs → (i : ℕ) (s : Sight) (fs : List Finding) → slice_get seen i ≡ Some s → slice_get (findings_all period xs seen) i ≡ Some fs →
-      TellsSight period (before ++ take i seen) s fs
+  pub findings_tell : (seen before : List Sight) (xs : List Tracked) → AreKinds seen → Stands periods before xs → (i : ℕ) (s : Sight) (fs : List Finding) → slice_get seen i ≡ Some s → slice_get (findings_all periods xs seen) i ≡ Some fs →
+      TellsSight periods (before ++ take i seen) s fs
   findings_tell [] before xs all st i s fs p q = absurd (none-some s p)
   findings_tell (t ∷ seen) before xs all st zero s fs p q =
-      subst (λ l. TellsSight period l s fs) (sym (append-nil before))
-      (subst (λ x. TellsSight period before s x) (same_Some _ fs q)
-      (subst (λ (x : Sight). TellsSight period before x (findings_by period (known_of xs t.key) t.moment t.shown)) (same_Some t s p)
-      (tells_by period before t.key (known_of xs t.key) t.moment t.shown is all.0 (st.each t.key))))
+      subst (λ l. TellsSight periods l s fs) (sym (append-nil before))
+      (subst (λ x. TellsSight periods before s x) (same_Some _ fs q)
+      (subst (λ (x : Sight). TellsSight periods before x (findings_by (period_for periods t.key) (known_of xs t.key) t.moment t.shown)) (same_Some t s p)
+      (tells_by (period_for periods t.key) before t.key (known_of xs t.key) t.moment t.shown (in_range periods t.key are) all.0 (st.each t.key))))
   findings_tell (t ∷ seen) before xs all st (suc i) s fs p q =
-      subst (λ l. TellsSight period l s fs) (append_assoc before (t ∷ []) (take i seen))
-      (findings_tell seen (before ++ t ∷ []) (track period xs t) all.1 (stands_on before xs t all.0 st) i s fs p q)
+      subst (λ l. TellsSight periods l s fs) (append_assoc before (t ∷ []) (take i seen))
+      (findings_tell seen (before ++ t ∷ []) (track periods xs t) all.1 (stands_on before xs t all.0 st) i s fs p q)
 
-  pub findings_sizes : (seen : List Sight) (xs : List Tracked) → length (findings_all period xs seen) ≡ length seen
+  pub findings_sizes : (seen : List Sight) (xs : List Tracked) → length (findings_all periods xs seen) ≡ length seen
   findings_sizes [] xs = refl
-  findings_sizes (s ∷ seen) xs = ap suc (findings_sizes seen (track period xs s))
+  findings_sizes (s ∷ seen) xs = ap suc (findings_sizes seen (track periods xs s))

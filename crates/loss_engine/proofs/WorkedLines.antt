@@ -92,7 +92,7 @@ clock moment = record { kind = Clock; moment = moment }
 -- by how much time goes back at the last of events of the clock, behind others of which this is kept
 abbrev backs : List ℕ → Kept → List (Option ℕ)
 backs [] k = []
-backs (m ∷ ms) k = back_by k m ∷ backs ms (keep None k (clock m))
+backs (m ∷ ms) k = back_by k m ∷ backs ms (keep [] k (clock m))
 
 pub record AreTimesBack : Type 0 where
   pub line : back_lines Text 4 9000000 (Some 1000000) ≡ codes "4 time-back by=1000000\n"

@@ -4,9 +4,10 @@ use Rattle.loss_core.specs.declared.finding.Finding.{Finding}
 use Rattle.loss_core.specs.declared.sender.Told.{Told}
 use Rattle.loss_core.specs.declared.stream.Came.{Came}
 use Rattle.loss_core.specs.Findings.{came_told, frame_findings, synch_told}
+use Rattle.loss_core.specs.Periods.{Period}
 use Rattle.loss_core.specs.Sender.{IsToldLast}
 use Rattle.loss_core.specs.Stream.{IsSampleToldLast}
-use Rattle.loss_engine.specs.Sights.{Key, Shown, Sight, frame, sample, frames_of, samples_of, synchs_of}
+use Rattle.loss_engine.specs.Sights.{Key, Shown, Sight, frame, sample, frames_of, period_for, samples_of, synchs_of}
 
 -- the last of several, if there is one
 abbrev pub last_of : List ℕ → Option ℕ
@@ -25,6 +26,6 @@ TellsShown (Some period) earlier key moment (sample count synch) findings =
     (what : Came) × IsSampleToldLast period (samples_of key earlier) (record { count = count; moment = moment }) what
     × (findings ≡ came_told period count what ++ synch_told (last_of (synchs_of key earlier)) synch)
 
--- what is told of a sight after earlier ones
-abbrev pub TellsSight : Option ℕ → List Sight → Sight → List Finding → Type 0
-TellsSight period earlier s findings = TellsShown period earlier s.key s.moment s.shown findings
+-- what is told of a sight after earlier ones, where streams have these periods
+abbrev pub TellsSight : List Period → List Sight → Sight → List Finding → Type 0
+TellsSight periods earlier s findings = TellsShown (period_for periods s.key) earlier s.key s.moment s.shown findings

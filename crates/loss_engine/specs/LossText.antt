@@ -16,6 +16,7 @@ use Rattle.loss_core.specs.declared.sender_tally.SenderTally.{SenderTally}
 use Rattle.loss_core.specs.declared.sender_tally.SenderTotals.{SenderTotals}
 use Rattle.loss_core.specs.declared.stream.Came.{Came}
 use Rattle.loss_core.specs.declared.stream_tally.StreamTotals.{StreamTotals}
+use Rattle.loss_core.specs.Periods.{Period}
 use Rattle.loss_core.specs.Sender.{over_at}
 use Rattle.loss_core.specs.SenderTotals.{TallyStandsAfter, kept}
 use Rattle.loss_core.specs.Stream.{AreSamplesTold, IsKnownOf, Known}
@@ -25,7 +26,7 @@ use Rattle.loss_core.specs.Findings.{has_loss}
 use Rattle.loss_engine.specs.Findings.{TellsSight}
 use Rattle.loss_engine.specs.LossLine.{end_silent_line, finding_line, samples_line, sender_total_line, stream_total_line, time_back_line}
 use Rattle.loss_engine.specs.LossObject.{end_silent_object, finding_object, samples_object, sender_total_object, stream_total_object, time_back_object}
-use Rattle.loss_engine.specs.Sights.{Key, Sight, sender, stream, frames_of, greatest_moment, keys_in, samples_of, sights_in, sights_of}
+use Rattle.loss_engine.specs.Sights.{Key, Sight, sender, stream, frames_of, greatest_moment, keys_in, period_for, samples_of, sights_in, sights_of}
 use Rattle.loss_engine.specs.TimeBack.{TellsBack}
 
 -- ---- events
@@ -58,12 +59,12 @@ sights_at before e = sights_of (greatest_moment (before ++ e ∷ [])) e.1.kind
 
 -- What is written of an event after others, and whether it is a finding: that time goes back, where it does; and of each sight what it
 -- tells after all before it.
-pub record TellsEvent {A : Type 0} (period : Option ℕ) (style : Style) (before : List (ℕ × Event A)) (e : ℕ × Event A) (w : ItemText) : Type 0 where
+pub record TellsEvent {A : Type 0} (periods : List Period) (style : Style) (before : List (ℕ × Event A)) (e : ℕ × Event A) (w : ItemText) : Type 0 where
   pub back : Option ℕ
   pub goes_back : TellsBack before e back
   pub findings : List (List Finding)
   pub sizes : length findings ≡ length (sights_at before e)
-  pub each : (i : ℕ) (s : Sight) (fs : List Finding) → slice_get (sights_at before e) i ≡ Some s → slice_get findings i ≡ Some fs → TellsSight period (sights_in before ++ take i (sights_at before e)) s fs
+  pub each : (i : ℕ) (s : Sight) (fs : List Finding) → slice_get (sights_at before e) i ≡ Some s → slice_get findings i ≡ Some fs → TellsSight periods (sights_in before ++ take i (sights_at before e)) s fs
   pub text : w.text ≡ styled style e.1.moment (λ form. back_lines form e.0 e.1.moment back ++ sight_lines form e.0 e.1.moment (sights_at before e) findings)
   pub found : w.is_finding ≡ (is_some back || list_any has_loss findings)
 
@@ -129,12 +130,12 @@ ClosesKey (Some period) form seen end (stream app_id source id) silent total = C
 
 -- What is written at the end, behind sights up to this greatest moment: of each sender and each stream, in the order of first
 -- occurrence, what has not come back; and then of each the total.
-pub record IsClosing (period : Option ℕ) (form : Form) (seen : List Sight) (end : ℕ) (lines : List ItemText) : Type 0 where
+pub record IsClosing (periods : List Period) (form : Form) (seen : List Sight) (end : ℕ) (lines : List ItemText) : Type 0 where
   pub silents : List ItemText
   pub totals : List ItemText
   pub silents_sizes : length silents ≡ length (keys_in seen)
   pub totals_sizes : length totals ≡ length (keys_in seen)
-  pub each : (i : ℕ) (key : Key) (silent total : ItemText) → slice_get (keys_in seen) i ≡ Some key → slice_get silents i ≡ Some silent → slice_get totals i ≡ Some total → ClosesKey period form seen end key silent total
+  pub each : (i : ℕ) (key : Key) (silent total : ItemText) → slice_get (keys_in seen) i ≡ Some key → slice_get silents i ≡ Some silent → slice_get totals i ≡ Some total → ClosesKey (period_for periods key) form seen end key silent total
   pub parts : lines ≡ silents ++ totals
 
 -- the form of what is written in a style
@@ -153,30 +154,30 @@ closing_in (Lines form) w = w
 closing_in Dated w = record w { text = dash_before w.text }
 
 -- what is written at the end of the input, behind all its events
-abbrev pub ClosesEvents : {A : Type 0} → Option ℕ → Style → List (ℕ × Event A) → List ItemText → Type 0
-ClosesEvents period style items closing = (lines : List ItemText) × IsClosing period (form_of style) (sights_in items) (greatest_moment items) lines × (closing ≡ map (closing_in style) lines)
+abbrev pub ClosesEvents : {A : Type 0} → List Period → Style → List (ℕ × Event A) → List ItemText → Type 0
+ClosesEvents periods style items closing = (lines : List ItemText) × IsClosing periods (form_of style) (sights_in items) (greatest_moment items) lines × (closing ≡ map (closing_in style) lines)
 
 -- ---- the input
 
 -- behind the events, by how the input stops: what is written at its end; nothing behind a fault, or where it was not read to its end
-abbrev pub ClosesBy : {A F : Type 0} → Option ℕ → Style → Stop F → List (ℕ × Event A) → List ItemText → Type 0
-ClosesBy period style finished items closing = ClosesEvents period style items closing
-ClosesBy period style unfinished items closing = closing ≡ []
-ClosesBy period style (faulty f) items closing = closing ≡ []
+abbrev pub ClosesBy : {A F : Type 0} → List Period → Style → Stop F → List (ℕ × Event A) → List ItemText → Type 0
+ClosesBy periods style finished items closing = ClosesEvents periods style items closing
+ClosesBy periods style unfinished items closing = closing ≡ []
+ClosesBy periods style (faulty f) items closing = closing ≡ []
 
 -- What is written of an input that says these events, piece by piece: a piece for each event, with its number, and behind them those at the end. It stops as the input does.
-pub record AreLosses {A F : Type 0} (period : Option ℕ) (style : Style) (said : Numbered (Event A) F) (pieces : Numbered ItemText F) : Type 0 where
+pub record AreLosses {A F : Type 0} (periods : List Period) (style : Style) (said : Numbered (Event A) F) (pieces : Numbered ItemText F) : Type 0 where
   pub told : List (ℕ × ItemText)
   pub sizes : length told ≡ length said.items
-  pub each : (i : ℕ) (e : ℕ × Event A) (w : ℕ × ItemText) → slice_get said.items i ≡ Some e → slice_get told i ≡ Some w → (w.0 ≡ e.0) × TellsEvent period style (take i said.items) e w.1
+  pub each : (i : ℕ) (e : ℕ × Event A) (w : ℕ × ItemText) → slice_get said.items i ≡ Some e → slice_get told i ≡ Some w → (w.0 ≡ e.0) × TellsEvent periods style (take i said.items) e w.1
   pub closing : List (ℕ × ItemText)
-  pub closes : ClosesBy period style said.stop said.items (map (λ w. w.1) closing)
+  pub closes : ClosesBy periods style said.stop said.items (map (λ w. w.1) closing)
   pub parts : pieces.items ≡ told ++ closing
   pub stops : pieces.stop ≡ said.stop
 
--- how losses are told: of streams with so many samples a second, where that is given; in this style; and a fault of the input by such a line or object
+-- how losses are told: of streams with these periods; in this style; and a fault of the input by such a line or object
 pub record Manner (F : Type 0) : Type 0 where
-  pub period : Option ℕ
+  pub periods : List Period
   pub style : Style
   pub last : FaultText F
 

@@ -10,13 +10,14 @@ use Rattle.engine_core.specs.declared.style.Style.{Style}
 use Rattle.engine_core.specs.EngineText.{ItemText, exactly}
 use Rattle.engine_core.specs.Input.{Input, IsRead, TellsNext}
 use Rattle.engine_core.specs.RunOver.{Run}
+use Rattle.loss_core.specs.Periods.{Period}
 use Rattle.loss_engine.specs.LossText.{AreLosses, Manner, TellsEvent, sights_at, written_pieces}
 use Rattle.loss_engine.specs.Sights.{Sight, keys_in, same_key, sights_in}
 
 -- the pieces of events: one for each, with its number
-pub record ArePiecesOf {A : Type 0} (period : Option ℕ) (style : Style) (events : List (ℕ × Event A)) (pieces : List (ℕ × ItemText)) : Type 0 where
+pub record ArePiecesOf {A : Type 0} (periods : List Period) (style : Style) (events : List (ℕ × Event A)) (pieces : List (ℕ × ItemText)) : Type 0 where
   pub sizes : length pieces ≡ length events
-  pub each : (i : ℕ) (e : ℕ × Event A) (w : ℕ × ItemText) → slice_get events i ≡ Some e → slice_get pieces i ≡ Some w → (w.0 ≡ e.0) × TellsEvent period style (take i events) e w.1
+  pub each : (i : ℕ) (e : ℕ × Event A) (w : ℕ × ItemText) → slice_get events i ≡ Some e → slice_get pieces i ≡ Some w → (w.0 ≡ e.0) × TellsEvent periods style (take i events) e w.1
 
 -- an event shows a sender or a stream that none of those before shows
 pub record ShowsNew {A : Type 0} (before : List (ℕ × Event A)) (e : ℕ × Event A) : Type 0 where
@@ -26,11 +27,11 @@ pub record ShowsNew {A : Type 0} (before : List (ℕ × Event A)) (e : ℕ × Ev
   pub is_new : list_any (λ k. same_key k sight.key) (keys_in (sights_in before)) ≡ false
 
 -- Behind these pieces memory is wanted: by the input, to keep something behind their events; for a sender or a stream of the next event that is new; or for the text of the next piece.
-pub data LossWants {A F : Type 0} (period : Option ℕ) (style : Style) (Keeps : List (ℕ × Event A) → Type 0) (said : Numbered (Event A) F) (pieces : Numbered ItemText F) (written : List (ℕ × ItemText)) : Type 0 where
-  for_input : ArePiecesOf period style (take (length written) said.items) written → Keeps (take (length written) said.items) → LossWants period style Keeps said pieces written
-  for_new : (next : ℕ × Event A) → slice_get said.items (length written) ≡ Some next → ArePiecesOf period style (take (length written) said.items) written → ShowsNew (take (length written) said.items) next →
-      LossWants period style Keeps said pieces written
-  for_text : (next : ℕ × ItemText) (others : Numbered ItemText F) → pieces ≡ put_items written (put_item next others) → (next.1.text ≡ [] → ⊥) → LossWants period style Keeps said pieces written
+pub data LossWants {A F : Type 0} (periods : List Period) (style : Style) (Keeps : List (ℕ × Event A) → Type 0) (said : Numbered (Event A) F) (pieces : Numbered ItemText F) (written : List (ℕ × ItemText)) : Type 0 where
+  for_input : ArePiecesOf periods style (take (length written) said.items) written → Keeps (take (length written) said.items) → LossWants periods style Keeps said pieces written
+  for_new : (next : ℕ × Event A) → slice_get said.items (length written) ≡ Some next → ArePiecesOf periods style (take (length written) said.items) written → ShowsNew (take (length written) said.items) next →
+      LossWants periods style Keeps said pieces written
+  for_text : (next : ℕ × ItemText) (others : Numbered ItemText F) → pieces ≡ put_items written (put_item next others) → (next.1.text ≡ [] → ⊥) → LossWants periods style Keeps said pieces written
 
 -- Behind these pieces no more of an input of events was read than the next answer needs: they are of as many events, behind which it was read for this answer; or it has ended, and further ones are those at its end.
 pub record StandsBehind {A C F : Type 0} (input : Input (Event A) C F) (z : InputEnd) (read : List ℕ) (written : List (ℕ × ItemText)) : Type 0 where
@@ -55,5 +56,5 @@ KeepsBehind input z read events = input.stands z read events (Err None)
 -- A run writes, piece by piece, what is told of an input; where it ends for want of memory, this is wanted so.
 pub record WritesLosses {A C F : Type 0} (how : Manner F) (input : Input (Event A) C F) (ending : Ending) (fault : Option F) (z : InputEnd) (read : List ℕ) (old new : Option (List ℕ)) : Type 0 where
   pub pieces : Numbered ItemText F
-  pub are : AreLosses how.period how.style (input.says z read) pieces
-  pub run : Run (ArePiecesRead input z read pieces (LossWants how.period how.style (KeepsBehind input z read) (input.says z read) pieces)) input.faults (exactly (written_pieces how)) ending fault old new
+  pub are : AreLosses how.periods how.style (input.says z read) pieces
+  pub run : Run (ArePiecesRead input z read pieces (LossWants how.periods how.style (KeepsBehind input z read) (input.says z read) pieces)) input.faults (exactly (written_pieces how)) ending fault old new

@@ -1,6 +1,6 @@
 -- What the frames of an input show of senders and of streams: each frame of GOOSE a pair of stNum and sqNum, and each ASDU of
 -- Sampled Values a count.
-use Rattle.std.specs.Prelude.{ℕ, ◌*◌, ◌&&◌, ◌==◌, max, Bool, true, false, not, List, [], ◌∷◌, ◌++◌, map, Result, Ok, Err, if◌then◌else◌}
+use Rattle.std.specs.Prelude.{ℕ, ◌*◌, ◌&&◌, ◌==◌, max, Bool, true, false, not, List, [], ◌∷◌, ◌++◌, map, Option, None, Result, Ok, Err, if◌then◌else◌}
 use Rattle.std.specs.List.{flat_map, list_any}
 use Rattle.std.specs.Str.{bytes_eq}
 use Rattle.ber_core.specs.declared.fault.Fault.{Fault}
@@ -16,6 +16,7 @@ use Rattle.frame_core.specs.computed.FrameReading.{frame_at}
 use Rattle.loss_core.specs.declared.sender.Pair.{Pair}
 use Rattle.loss_core.specs.declared.sender.Arrival.{Arrival}
 use Rattle.loss_core.specs.declared.stream.Sample.{Sample}
+use Rattle.loss_core.specs.Periods.{Period, period_of}
 
 -- A sender by APPID, gocbRef and simulation (IEC 61850-8-1), or a stream by APPID, source address and svID (IEC 61850-9-2).
 pub data Key : Type 0 where
@@ -33,6 +34,11 @@ same_key (sender a r s) (sender b q t) = a == b && (bytes_eq r q && same_truth s
 same_key (sender a r s) (stream b o i) = false
 same_key (stream a o i) (sender b r s) = false
 same_key (stream a o i) (stream b p j) = a == b && (bytes_eq o p && bytes_eq i j)
+
+-- the period of a stream, by its svID; a sender has none
+abbrev pub period_for : List Period → Key → Option ℕ
+period_for periods (sender app_id reference simulation) = None
+period_for periods (stream app_id source id) = period_of periods id
 
 -- what is shown: of a sender a frame's pair and its lifetime in microseconds, 1,000 times timeAllowedtoLive; of a stream smpCnt and smpSynch
 pub data Shown : Type 0 where

@@ -1,11 +1,11 @@
 //! `losses`: what is missing of each control block and stream, when, and how much.
-ghost use Rattle.std.specs.Prelude.{◌≡◌, ◌++◌, [], None, IsOk, OnErr, OnOk, false, length, take};
+ghost use Rattle.std.specs.Prelude.{◌≡◌, ◌++◌, [], IsOk, OnErr, OnOk, false, length, take};
 ghost use Rattle.engine_core.specs.Ending.{is_write_fault};
 ghost use Rattle.engine_core.specs.EngineText.{exactly};
 ghost use Rattle.engine_core.specs.EventsText.{fault_text};
 ghost use Rattle.engine_core.specs.Input.{reader_of};
 ghost use Rattle.loss_engine.specs.LossText.{written_pieces};
-ghost use Rattle.loss_engine.specs.computed.Entries.{IsPeriodOf};
+ghost use Rattle.loss_core.specs.Periods.{ArePeriods};
 ghost use Rattle.loss_engine.specs.computed.LossesOver.{LossesOver};
 
 use crate::losing::Losing;
@@ -13,6 +13,7 @@ use crate::passage::Passage;
 use crate::unjudged::Unjudged;
 use engine_core::{Engine, Stopped, Style, put_fault_in, run_over};
 use list_core::{Event, InputFault, LineError, ReadItems, Sink};
+use loss_core::StreamPeriod;
 use object_core::LastObject;
 use std::alloc::{AllocError, Allocator};
 use text_core::LastLine;
@@ -39,7 +40,7 @@ struct Handing {
 impl<A: Allocator, F: InputFault + LastLine + LastObject> Engine<A, F> for Handing {
     type Item = Passage<A>;
 
-    ghost allows = { λ s. exactly (written_pieces (record { period = None; style = s.style; last = fault_text F.last_line F.last_object })) };
+    ghost allows = { λ s. exactly (written_pieces (record { periods = []; style = s.style; last = fault_text F.last_line F.last_object })) };
 
     ghost stands = { λ _ _. Unit {0} };
 
@@ -65,10 +66,11 @@ impl<A: Allocator, F: InputFault + LastLine + LastObject> Engine<A, F> for Handi
 }
 
 /// Writes what is missing of each control block and stream that the events of a reader show, when a frame comes that shows it,
-/// and at the end of the events what has not come back and a total for each, in a style. Streams have so many samples a second,
-/// where that is given; else they are counted alone, and noted. Hands out how that ended, the fault by which it did, and the reader.
+/// and at the end of the events what has not come back and a total for each, in a style. A stream has its period of those that are
+/// given; without one it is counted alone, and noted. Hands out how that ended, the fault by which it did, and the reader.
 ///
 /// A frame, or an end, that tells a loss is a finding. Behind a fault of the input nothing is told of the end.
+#[inline(always)]
 pub fn losses_over<
     A: Allocator + Copy,
     F: InputFault + LastLine + LastObject + Drop,
@@ -78,16 +80,16 @@ pub fn losses_over<
     alloc: A,
     style: Style,
     events: I,
-    period: Option<u32>,
+    periods: Vec<StreamPeriod<A>, A>,
     unjudged: &mut Unjudged<A>,
     writer: &mut W,
 ) -> Stopped<I, F>
     requires works { W.failed writer.old ≡ false }
-    requires period { IsPeriodOf period }
-    ensures text { LossesOver (record { period = period; style = style; last = fault_text F.last_line F.last_object }) (reader_of I.answers I.number F.refused F.failed) events result (W.contents writer.old) (W.contents writer.new) }
+    requires periods { ArePeriods periods.items }
+    ensures text { LossesOver (record { periods = periods.items; style = style; last = fault_text F.last_line F.last_object }) (reader_of I.answers I.number F.refused F.failed) events result (W.contents writer.old) (W.contents writer.new) }
     ensures fault { W.failed writer.new ≡ is_write_fault result.ending }
 {
-    let passages = Losing::new(alloc, period, style, events);
+    let passages = Losing::new(alloc, periods, style, events);
     let Stopped {
         ending,
         fault,

@@ -2,8 +2,8 @@
 //! in all.
 ghost use Rattle.std.specs.Prelude.{◌≡◌, ◌<◌, ◌^◌, [], length, IfOk, IfSome, OnErr, OnOk, None};
 ghost use Rattle.list_core.specs.ReadItems.{told_as};
-ghost use Rattle.loss_engine.specs.computed.Entries.{IsPeriodOf};
-ghost use Rattle.loss_engine.specs.computed.Judging.{ClosesAt, Judges, SameSetting, ToldNext, WantsNext, closing_of, events_of, kept_of, left_at, left_of, period_of};
+ghost use Rattle.loss_core.specs.Periods.{ArePeriods};
+ghost use Rattle.loss_engine.specs.computed.Judging.{ClosesAt, Judges, SameSetting, ToldNext, WantsNext, closing_of, events_of, kept_of, left_at, left_of, periods_of};
 ghost use Rattle.loss_engine.specs.computed.Tracking.{keep, kept_none, piece_by};
 
 use crate::closing::put_closing;
@@ -13,6 +13,7 @@ use crate::telling::put_event;
 use crate::unjudged::Unjudged;
 use engine_core::{Style, put_dated};
 use list_core::{Event, ReadError, ReadItems};
+use loss_core::StreamPeriod;
 use object_core::{Form, Heading};
 use std::alloc::{AllocError, Allocator};
 
@@ -42,18 +43,18 @@ fn memory_of<A: Allocator>(alloc: A, spare: &mut Option<Passage<A>>) -> Vec<u8, 
 }
 
 impl<I, A: Allocator + Copy> Losing<I, A> {
-    /// Of the events of this reader, for streams of so many samples a second, where that is given.
-    pub fn new(alloc: A, period: Option<u32>, style: Style, events: I) -> Losing<I, A>
-        requires { IsPeriodOf period }
+    /// Of the events of this reader, for streams with these periods.
+    pub fn new(alloc: A, periods: Vec<StreamPeriod<A>, A>, style: Style, events: I) -> Losing<I, A>
+        requires { ArePeriods periods.items }
         ensures events { events_of result ≡ events }
-        ensures period { period_of result ≡ period }
+        ensures periods { periods_of result ≡ periods.items }
         ensures style { result.style ≡ style }
         ensures none { kept_of result ≡ kept_none }
         ensures open { closing_of result ≡ None }
     {
         Losing {
             events,
-            losses: Losses::new(alloc, period),
+            losses: Losses::new(alloc, periods),
             style,
             undated: Vec::new(alloc),
             spare: None,
@@ -92,8 +93,8 @@ impl<A: Allocator + Copy, I: ReadItems<A, Item = Event<A>>> Losing<I, A> {
         event: &Event<A>,
     ) -> Result<bool, AllocError>
         requires { out.old.items ≡ [] }
-        ensures told { IfOk result (λ found. record { text = out.new.items; is_finding = found } ≡ piece_by (period_of self.old) self.old.style (kept_of self.old) (number, event.now)) }
-        ensures keeps { OnOk result (kept_of self.new ≡ keep (period_of self.old) (kept_of self.old) event.now) }
+        ensures told { IfOk result (λ found. record { text = out.new.items; is_finding = found } ≡ piece_by (periods_of self.old) self.old.style (kept_of self.old) (number, event.now)) }
+        ensures keeps { OnOk result (kept_of self.new ≡ keep (periods_of self.old) (kept_of self.old) event.now) }
         ensures wants { OnErr result (WantsNext self.old (number, event.now)) }
         ensures setting { SameSetting self.old self.new }
         ensures events { events_of self.new ≡ events_of self.old }

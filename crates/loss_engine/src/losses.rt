@@ -1,14 +1,15 @@
 //! What is kept of all senders and streams.
 
 ghost use Rattle.std.specs.Prelude.{◌≡◌, ◌∷◌, ◌++◌, ◌+◌, ◌*◌, ◌^◌, ◌-◌, ◌<◌, ℕ, length, IfSome, [], IfOk, OnErr, OnOk, None, Some, slice_get};
+ghost use Rattle.loss_core.specs.Periods.{ArePeriods, IsPeriodOf, period_of as period_is};
 ghost use Rattle.loss_core.specs.Sender.{told_after};
 ghost use Rattle.loss_core.specs.computed.SenderTotalSteps.{first_tally};
 ghost use Rattle.loss_engine.specs.KeySaid.{key_said, sender_said, stream_said};
 ghost use Rattle.object_core.specs.declared.counted.Form.{Form};
 ghost use Rattle.loss_engine.specs.computed.Closing.{IsClosingAt, closing_item};
-ghost use Rattle.loss_engine.specs.computed.Entries.{IsPeriodOf, progress_of};
-ghost use Rattle.loss_engine.specs.Sights.{sample};
-ghost use Rattle.loss_engine.specs.computed.Tracking.{CountsAs, Progress as Known, TellsSample, back_by, back_where, came_in};
+ghost use Rattle.loss_engine.specs.computed.Entries.{progress_of};
+ghost use Rattle.loss_engine.specs.Sights.{period_for, sample};
+ghost use Rattle.loss_engine.specs.computed.Tracking.{CountsAs, back_by, back_where, first_came as first_is};
 ghost use Rattle.loss_engine.specs.computed.Tracking.{frames, first_samples, kept_none, known_of, more_frames, passed, sender_of, silences_by, totals_by, track, with_progress};
 
 use crate::closing::Closing;
@@ -16,7 +17,9 @@ use crate::entry::{Entry, Progress, first_told};
 use crate::key::{Key, SenderKey, StreamKey};
 use crate::roll::Roll;
 use crate::unjudged::Unjudged;
-use loss_core::{Arrival, Came, Pair, Sample, SenderTally, StreamTally, Told};
+use loss_core::{
+    Arrival, Came, Pair, Sample, SenderTally, StreamPeriod, StreamTally, Told, period_of,
+};
 use std::alloc::{AllocError, Allocator};
 
 // How many microseconds below the greatest moment one lies at least that is far back.
@@ -32,40 +35,74 @@ fn told_back(is_far: bool, was_far: bool, by: u64) -> Option<u64>
     }
 }
 
+// What the count of a stream's first sample tells, where the stream has a period.
+fn first_came(period: Option<u32>, count: u16) -> Option<Came>
+    ensures { (moment : ℕ) → result ≡ first_is period (record { count = count; moment = moment }) }
+{
+    match period {
+        None => None,
+        Some(period) if u32::from(count) < period => Some(Came::First),
+        Some(_) => Some(Came::OutOfRange),
+    }
+}
+
+// What is kept of a stream at its first sample.
+fn first_samples(period: Option<u32>, sample: Sample, synch: u8) -> Progress
+    requires { IsPeriodOf period }
+    ensures { progress_of result ≡ first_samples period sample synch }
+{
+    match period {
+        None => Progress::Counted(1, synch),
+        Some(period) => {
+            let mut tally = StreamTally::new(period);
+            tally.take(sample);
+            Progress::Samples(tally, synch)
+        }
+    }
+}
+
 /// What is kept of senders and streams, in the order of their first occurrence.
 #[derive(Drop)]
 pub struct Losses<A: Allocator> {
-    period: Option<u32>,
+    periods: Vec<StreamPeriod<A>, A>,
     roll: Roll<A>,
     greatest: u64,
     // Whether the last event was far back.
     is_back: bool,
-    ghost is_period: { IsPeriodOf period },
+    ghost are_periods: { ArePeriods periods.items },
 }
 
 impl<A: Allocator + Copy> Losses<A> {
-    ghost use Rattle.loss_engine.specs.computed.Held.{kept_by, period_by};
+    ghost use Rattle.loss_engine.specs.computed.Held.{kept_by, periods_by};
 
-    /// Of streams of so many samples a second, where that is given, 1 to 65,536; of none of them anything came.
-    pub fn new(alloc: A, period: Option<u32>) -> Losses<A>
-        requires { IsPeriodOf period }
-        ensures period { period_by result ≡ period }
+    /// Of streams with these periods, each 2 to 65,536; of none of them anything came.
+    pub fn new(alloc: A, periods: Vec<StreamPeriod<A>, A>) -> Losses<A>
+        requires { ArePeriods periods.items }
+        ensures periods { periods_by result ≡ periods.items }
         ensures none { kept_by result ≡ kept_none }
     {
         Losses {
-            period,
+            periods,
             roll: Roll::new(alloc),
             greatest: 0,
             is_back: false,
         }
     }
 
-    /// How many samples a second the streams have, where that is given.
-    pub fn period(&self) -> Option<u32>
-        ensures is { result ≡ period_by self.now }
+    /// The periods that are given.
+    pub fn periods(&self) -> &[StreamPeriod<A>]
+        ensures is { result.now ≡ periods_by self.now }
+        ensures range { ArePeriods result.now }
+    {
+        self.periods.as_slice()
+    }
+
+    // The period of a stream with this svID.
+    fn period(&self, id: &[u8]) -> Option<u32>
+        ensures is { result ≡ period_is (periods_by self.now) id.now }
         ensures range { IsPeriodOf result }
     {
-        self.period
+        period_of(self.periods.as_slice(), id)
     }
 
     /// The greatest moment so far.
@@ -79,7 +116,7 @@ impl<A: Allocator + Copy> Losses<A> {
     #[inline(always)]
     pub fn pass(&mut self, moment: u64) -> Option<u64>
         ensures back { result ≡ back_by (kept_by self.old) moment }
-        ensures period { period_by self.new ≡ period_by self.old }
+        ensures periods { periods_by self.new ≡ periods_by self.old }
         ensures kept { kept_by self.new ≡ passed (kept_by self.old) moment }
     {
         if self.greatest <= moment {
@@ -96,7 +133,7 @@ impl<A: Allocator + Copy> Losses<A> {
     fn pass_below(&mut self, moment: u64) -> Option<u64>
         requires { moment < (kept_by self.old).moment }
         ensures back { result ≡ back_by (kept_by self.old) moment }
-        ensures period { period_by self.new ≡ period_by self.old }
+        ensures periods { periods_by self.new ≡ periods_by self.old }
         ensures kept { kept_by self.new ≡ passed (kept_by self.old) moment }
     {
         let by = self.greatest - moment;
@@ -110,7 +147,7 @@ impl<A: Allocator + Copy> Losses<A> {
     fn put(&mut self, alloc: A, key: Key<'_>, progress: Progress) -> Result<(), AllocError>
         requires { known_of (kept_by self.old).tracked (key_said key) ≡ None }
         ensures put { OnOk result (kept_by self.new ≡ record (kept_by self.old) { tracked = (kept_by self.old).tracked ++ record { key = key_said key.entry; progress = progress_of progress } ∷ [] }) }
-        ensures period { period_by self.new ≡ period_by self.old }
+        ensures periods { periods_by self.new ≡ periods_by self.old }
     {
         let entry = Entry::new(alloc, key, progress)?;
         self.roll.push(alloc, entry)
@@ -128,7 +165,7 @@ impl<A: Allocator + Copy> Losses<A> {
         ensures arrival { IfOk result (λ r. r.0 ≡ record { pair = pair; moment = (kept_by self.old).moment; lifetime = 1000 * live }) }
         ensures told { IfOk result (λ r. r.1 ≡ told_after (sender_of (known_of (kept_by self.old).tracked (sender_said key.entry))) r.0) }
         ensures kept { IfOk result (λ r. kept_by self.new ≡ record (kept_by self.old) { tracked = with_progress (kept_by self.old).tracked (sender_said key.entry) (frames (first_tally r.0)) (more_frames r.0) }) }
-        ensures period { period_by self.new ≡ period_by self.old }
+        ensures periods { periods_by self.new ≡ periods_by self.old }
         ensures wants { OnErr result (known_of (kept_by self.old).tracked (sender_said key.entry) ≡ None) }
     {
         let frame = Arrival {
@@ -149,45 +186,6 @@ impl<A: Allocator + Copy> Losses<A> {
         }
     }
 
-    // What a first sample's count tells, where a period is given.
-    fn first_came(&self, count: u16) -> Option<Came>
-        ensures { (moment : ℕ) → result ≡ came_in (period_by self.now) None (record { count = count; moment = moment }) }
-    {
-        match self.period {
-            None => None,
-            Some(period) if u32::from(count) < period => Some(Came::First),
-            Some(_) => Some(Came::OutOfRange),
-        }
-    }
-
-    // What is kept of a stream at its first sample.
-    fn first_samples(&self, sample: Sample, synch: u8) -> Progress
-        ensures { progress_of result ≡ first_samples (period_by self.now) sample synch }
-    {
-        match self.period {
-            None => Progress::Counted(1, synch),
-            Some(period) => {
-                let mut tally = StreamTally::new(period);
-                tally.take(sample);
-                Progress::Samples(tally, synch)
-            }
-        }
-    }
-
-    // What is answered of a sample of a stream that is known.
-    fn came_of(&self, answer: (Option<Came>, Option<u8>), count: u16) -> (Option<Came>, Option<u8>)
-        ensures { (known : Known) (moment : ℕ) → TellsSample known (record { count = count; moment = moment }) answer → CountsAs (period_by self.now) (Some known) (record { count = count; moment = moment }) result }
-    {
-        let (came, before) = answer;
-        match came {
-            None => (self.first_came(count), before),
-            Some(came) => match self.period {
-                None => (None, before),
-                Some(_) => (Some(came), before),
-            },
-        }
-    }
-
     // Takes the first sample of a stream. A call of its own, since there is one of each stream.
     #[inline(never)]
     fn take_first(
@@ -198,17 +196,20 @@ impl<A: Allocator + Copy> Losses<A> {
         synch: u8,
     ) -> Result<(Option<Came>, Option<u8>), AllocError>
         requires { known_of (kept_by self.old).tracked (stream_said key) ≡ None }
-        ensures told { IfOk result (λ r. CountsAs (period_by self.old) None sample r) }
-        ensures put { OnOk result (kept_by self.new ≡ record (kept_by self.old) { tracked = (kept_by self.old).tracked ++ record { key = stream_said key.entry; progress = first_samples (period_by self.old) sample synch } ∷ [] }) }
-        ensures period { period_by self.new ≡ period_by self.old }
+        ensures told { IfOk result (λ r. CountsAs (period_for (periods_by self.old) (stream_said key.entry)) None sample r) }
+        ensures put { OnOk result (kept_by self.new ≡ record (kept_by self.old) {
+          tracked = (kept_by self.old).tracked ++ record { key = stream_said key.entry; progress = first_samples (period_for (periods_by self.old) (stream_said key.entry)) sample synch } ∷ [];
+        }) }
+        ensures periods { periods_by self.new ≡ periods_by self.old }
     {
-        let first = self.first_samples(sample, synch);
+        let period = self.period(key.id);
+        let first = first_samples(period, sample, synch);
         self.put(alloc, Key::Stream(key), first)?;
-        Ok((self.first_came(sample.count), None))
+        Ok((first_came(period, sample.count), None))
     }
 
-    /// Takes a sample of a stream with this smpSynch, and answers what its count tells, where a period is given, and the smpSynch
-    /// before. Memory is wanted for a new stream alone.
+    /// Takes a sample of a stream with this smpSynch, and answers what its count tells, where the stream has a period, and the
+    /// smpSynch before. Memory is wanted for a new stream alone.
     pub fn take_sample(
         &mut self,
         alloc: A,
@@ -216,10 +217,10 @@ impl<A: Allocator + Copy> Losses<A> {
         count: u16,
         synch: u8,
     ) -> Result<(Option<Came>, Option<u8>), AllocError>
-        ensures told { IfOk result (λ r. CountsAs (period_by self.old) (known_of (kept_by self.old).tracked (stream_said key.entry)) (record { count = count; moment = (kept_by self.old).moment }) r) }
+        ensures told { IfOk result (λ r. CountsAs (period_for (periods_by self.old) (stream_said key.entry)) (known_of (kept_by self.old).tracked (stream_said key.entry)) (record { count = count; moment = (kept_by self.old).moment }) r) }
         ensures kept { OnOk result (kept_by self.new ≡ record (kept_by self.old)
-            { tracked = track (period_by self.old) (kept_by self.old).tracked (record { key = stream_said key.entry; moment = (kept_by self.old).moment; shown = sample count synch }) }) }
-        ensures period { period_by self.new ≡ period_by self.old }
+            { tracked = track (periods_by self.old) (kept_by self.old).tracked (record { key = stream_said key.entry; moment = (kept_by self.old).moment; shown = sample count synch }) }) }
+        ensures periods { periods_by self.new ≡ periods_by self.old }
         ensures wants { OnErr result (known_of (kept_by self.old).tracked (stream_said key.entry) ≡ None) }
     {
         let sample = Sample {
@@ -229,7 +230,7 @@ impl<A: Allocator + Copy> Losses<A> {
         match self.roll.position_of_stream(key) {
             Some(at) => {
                 let answer = self.roll.take_sample(at, sample, synch);
-                Ok(self.came_of(answer, count))
+                Ok(answer)
             }
             None => self.take_first(alloc, key, sample, synch),
         }

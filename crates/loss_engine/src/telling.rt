@@ -4,7 +4,7 @@ ghost use Rattle.std.specs.Prelude.{◌≡◌, ◌∷◌, [], IfOk, OnErr, lengt
 ghost use Rattle.pdu_core.specs.SampledViews.{asdu_of, asdus_left};
 ghost use Rattle.pdu_core.specs.Views.{pdu_of};
 ghost use Rattle.loss_engine.specs.Sights.{sight_of_asdu, sight_of_goose, sights_of};
-ghost use Rattle.loss_engine.specs.computed.Held.{kept_by, period_by};
+ghost use Rattle.loss_engine.specs.computed.Held.{kept_by, periods_by};
 ghost use Rattle.loss_engine.specs.computed.Telling.{TellsAll, TellsSights, WantsAll, WantsFor};
 
 use crate::key::{Key, SenderKey, StreamKey};
@@ -26,10 +26,10 @@ fn put_goose<A: Allocator + Copy>(
     app_id: u16,
     goose: &GooseView<'_>,
 ) -> Result<bool, AllocError>
-    ensures tells { IfOk result (λ found. TellsSights heading (period_by losses.old) (kept_by losses.old) (sight_of_goose (kept_by losses.old).moment app_id (pdu_of {A = Unit {0}} goose.now) ∷ [])
+    ensures tells { IfOk result (λ found. TellsSights heading (periods_by losses.old) (kept_by losses.old) (sight_of_goose (kept_by losses.old).moment app_id (pdu_of {A = Unit {0}} goose.now) ∷ [])
         out.old.items found out.new.items (kept_by losses.new)) }
-    ensures period { period_by losses.new ≡ period_by losses.old }
-    ensures wants { OnErr result (WantsFor heading (period_by losses.old) (kept_by losses.old) (sight_of_goose (kept_by losses.old).moment app_id (pdu_of {A = Unit {0}} goose.now) ∷ [])) }
+    ensures periods { periods_by losses.new ≡ periods_by losses.old }
+    ensures wants { OnErr result (WantsFor heading (periods_by losses.old) (kept_by losses.old) (sight_of_goose (kept_by losses.old).moment app_id (pdu_of {A = Unit {0}} goose.now) ∷ [])) }
     ensures kept { take (length out.old.items) out.new.items ≡ out.old.items }
 {
     let key = SenderKey {
@@ -56,10 +56,10 @@ fn put_asdu<A: Allocator + Copy>(
     source: [u8; 6],
     asdu: &AsduView<'_>,
 ) -> Result<bool, AllocError>
-    ensures tells { IfOk result (λ found. TellsSights heading.now (period_by losses.old) (kept_by losses.old) (sight_of_asdu (kept_by losses.old).moment app_id source (asdu_of {A = Unit {0}} asdu.now) ∷ [])
+    ensures tells { IfOk result (λ found. TellsSights heading.now (periods_by losses.old) (kept_by losses.old) (sight_of_asdu (kept_by losses.old).moment app_id source (asdu_of {A = Unit {0}} asdu.now) ∷ [])
         out.old.items found out.new.items (kept_by losses.new)) }
-    ensures period { period_by losses.new ≡ period_by losses.old }
-    ensures wants { OnErr result (WantsFor heading.now (period_by losses.old) (kept_by losses.old) (sight_of_asdu (kept_by losses.old).moment app_id source (asdu_of {A = Unit {0}} asdu.now) ∷ [])) }
+    ensures periods { periods_by losses.new ≡ periods_by losses.old }
+    ensures wants { OnErr result (WantsFor heading.now (periods_by losses.old) (kept_by losses.old) (sight_of_asdu (kept_by losses.old).moment app_id source (asdu_of {A = Unit {0}} asdu.now) ∷ [])) }
     ensures kept { take (length out.old.items) out.new.items ≡ out.old.items }
 {
     let key = StreamKey {
@@ -70,8 +70,8 @@ fn put_asdu<A: Allocator + Copy>(
     let count = asdu.smp_cnt;
     let synch = asdu.smp_synch;
     let (came, before) = losses.take_sample(alloc, key, count, synch)?;
-    let period = losses.period();
-    let found = put_sample(out, heading, key, period, count, came, before, synch)?;
+    let periods = losses.periods();
+    let found = put_sample(out, heading, key, periods, count, came, before, synch)?;
     Ok(found)
 }
 
@@ -85,10 +85,10 @@ fn put_asdus<A: Allocator + Copy>(
     source: [u8; 6],
     sampled: &SvView<'_>,
 ) -> Result<bool, AllocError>
-    ensures tells { IfOk result (λ found. TellsSights heading (period_by losses.old) (kept_by losses.old) (map (sight_of_asdu (kept_by losses.old).moment app_id source) (asdus_left {A = Unit {0}} sampled.now.asdus))
+    ensures tells { IfOk result (λ found. TellsSights heading (periods_by losses.old) (kept_by losses.old) (map (sight_of_asdu (kept_by losses.old).moment app_id source) (asdus_left {A = Unit {0}} sampled.now.asdus))
         out.old.items found out.new.items (kept_by losses.new)) }
-    ensures period { period_by losses.new ≡ period_by losses.old }
-    ensures wants { OnErr result (WantsFor heading (period_by losses.old) (kept_by losses.old) (map (sight_of_asdu (kept_by losses.old).moment app_id source) (asdus_left {A = Unit {0}} sampled.now.asdus))) }
+    ensures periods { periods_by losses.new ≡ periods_by losses.old }
+    ensures wants { OnErr result (WantsFor heading (periods_by losses.old) (kept_by losses.old) (map (sight_of_asdu (kept_by losses.old).moment app_id source) (asdus_left {A = Unit {0}} sampled.now.asdus))) }
     ensures kept { take (length out.old.items) out.new.items ≡ out.old.items }
 {
     let mut found = false;
@@ -107,9 +107,9 @@ fn put_frame_of<A: Allocator + Copy>(
     heading: Heading,
     kind: &EventKind<A>,
 ) -> Result<bool, AllocError>
-    ensures tells { IfOk result (λ found. TellsSights heading (period_by losses.old) (kept_by losses.old) (sights_of (kept_by losses.old).moment kind.now) out.old.items found out.new.items (kept_by losses.new)) }
-    ensures period { period_by losses.new ≡ period_by losses.old }
-    ensures wants { OnErr result (WantsFor heading (period_by losses.old) (kept_by losses.old) (sights_of (kept_by losses.old).moment kind.now)) }
+    ensures tells { IfOk result (λ found. TellsSights heading (periods_by losses.old) (kept_by losses.old) (sights_of (kept_by losses.old).moment kind.now) out.old.items found out.new.items (kept_by losses.new)) }
+    ensures periods { periods_by losses.new ≡ periods_by losses.old }
+    ensures wants { OnErr result (WantsFor heading (periods_by losses.old) (kept_by losses.old) (sights_of (kept_by losses.old).moment kind.now)) }
     ensures kept { take (length out.old.items) out.new.items ≡ out.old.items }
 {
     let EventKind::Frame(octets) = kind else {
@@ -142,9 +142,9 @@ pub fn put_event<A: Allocator + Copy>(
     back: Option<u64>,
     kind: &EventKind<A>,
 ) -> Result<bool, AllocError>
-    ensures tells { IfOk result (λ found. TellsAll heading back (period_by losses.old) (kept_by losses.old) (sights_of (kept_by losses.old).moment kind.now) out.old.items found out.new.items (kept_by losses.new)) }
-    ensures period { period_by losses.new ≡ period_by losses.old }
-    ensures wants { OnErr result (WantsAll heading back (period_by losses.old) (kept_by losses.old) (sights_of (kept_by losses.old).moment kind.now)) }
+    ensures tells { IfOk result (λ found. TellsAll heading back (periods_by losses.old) (kept_by losses.old) (sights_of (kept_by losses.old).moment kind.now) out.old.items found out.new.items (kept_by losses.new)) }
+    ensures periods { periods_by losses.new ≡ periods_by losses.old }
+    ensures wants { OnErr result (WantsAll heading back (periods_by losses.old) (kept_by losses.old) (sights_of (kept_by losses.old).moment kind.now)) }
 {
     put_back(out, heading, back)?;
     let found = put_frame_of(alloc, losses, out, heading, kind)?;

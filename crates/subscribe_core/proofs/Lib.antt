@@ -25,3 +25,4 @@ pub mod Quiet
 pub mod Counts
 pub mod WorkedExamples
 pub mod Acted
+pub mod Changing

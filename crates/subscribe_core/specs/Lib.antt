@@ -8,6 +8,7 @@ pub mod Entries
 pub mod Apart
 pub mod State
 pub mod Looks
+pub mod Changes
 pub mod Laws
 pub mod Faults
 pub mod Watch

@@ -1,6 +1,7 @@
 //! The entries of a good frame, and what it gives its block to hold.
 
-ghost use Rattle.std.specs.Prelude.{◌≡◌, ◌++◌, Some, None, IfOk, OnOk};
+ghost use Rattle.std.specs.Prelude.{◌≡◌, ◌≢◌, ◌<◌, ◌≤◌, ◌++◌, [], Some, None, IfOk, IsOk, OnOk, length, vec_capacity};
+ghost use Rattle.subscribe_core.specs.Changes.{changes};
 ghost use Rattle.subscribe_core.specs.FrameEntry.{entry_of};
 ghost use Rattle.subscribe_core.specs.computed.Indexed.{good_entries, good_renewal, switches};
 ghost use Rattle.subscribe_core.specs.computed.Received.{received_frame};
@@ -19,7 +20,8 @@ fn verdict_entry<A: Allocator + Copy>(
     frame: &Received<'_>,
     verdict: Verdict,
 ) -> Result<Entry<A>, AllocError>
-    ensures { IfOk result (λ e. e ≡ entry_of block (received_frame frame.now) verdict) }
+    ensures entry { IfOk result (λ e. e ≡ entry_of block (received_frame frame.now) verdict) }
+    ensures quiet { verdict ≢ Verdict.Act → IsOk result }
 {
     let (state, sequence) = (frame.goose.st_num, frame.goose.sq_num);
     match verdict {
@@ -81,6 +83,8 @@ pub(crate) fn push_good<A: Allocator + Copy>(
 ) -> Result<Option<LiveState>, AllocError>
     ensures entries { OnOk result (entries.new.items ≡ entries.old.items ++ good_entries block now old.now (received_frame frame.now)) }
     ensures held { IfOk result (λ held. held ≡ good_renewal now old.now (received_frame frame.now)) }
+    ensures capacity { vec_capacity entries.old ≤ vec_capacity entries.new }
+    ensures room { changes (good_entries {A = A} block now old.now (received_frame frame.now)) ≡ [] → length entries.old.items < vec_capacity entries.old → IsOk result }
 {
     let mut held = held_at(&old.held, now);
     if is_switching(old, frame) {

@@ -1,6 +1,6 @@
 //! The deadlines of the holding blocks: a number for each block, and above them the least of ever more of them.
 
-ghost use Rattle.std.specs.Prelude.{◌≡◌, ℕ, ◌<◌, ◌≤◌, ◌+◌, ◌-◌, ◌*◌, ◌^◌, ◌++◌, [], List, Option, Some, None, false, IfOk, OnOk, IsOk, IsTrue, IfSome, IfNone, length, min, slice_set, slice_index, slice_index_or};
+ghost use Rattle.std.specs.Prelude.{◌≡◌, ℕ, ◌<◌, ◌≤◌, ◌+◌, ◌-◌, ◌*◌, ◌^◌, ◌++◌, [], List, Option, Some, None, false, IfOk, OnOk, IsOk, IsTrue, IfSome, IfNone, length, min, slice_set, slice_index, slice_index_or, vec_capacity};
 ghost use Rattle.subscribe_core.specs.declared.registers.LiveState.{LiveState as SpecLiveState};
 ghost use Rattle.subscribe_core.specs.declared.registers.Register.{Register as SpecRegister};
 ghost use Rattle.subscribe_core.specs.computed.Steps.{expired_entries, is_dead};
@@ -124,6 +124,7 @@ impl<A: Allocator + Copy> Deadlines<A> {
         requires tree { IsTree self.now.nodes.items }
         ensures entries { (registers : List SpecRegister) → KeepsDeadlinesOf self.now (helds registers) → OnOk result (entries.new.items ≡ entries.old.items ++ expired_entries now 0 registers) }
         ensures quiet { (registers : List SpecRegister) → KeepsDeadlinesOf self.now (helds registers) → expired_entries {A = A} now 0 registers ≡ [] → IsOk result }
+        ensures capacity { vec_capacity entries.old ≤ vec_capacity entries.new }
     {
         let mut next = self.first_due(now);
         while let Some(at) = next {

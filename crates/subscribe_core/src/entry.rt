@@ -1,5 +1,8 @@
 //! What a subscriber answers to an event.
 
+ghost use Rattle.std.specs.Prelude.{◌≡◌};
+ghost use Rattle.subscribe_core.specs.Changes.{is_change};
+
 use ber_core::Fault;
 use mms_data::{UtcTime, ValueList};
 use std::alloc::Allocator;
@@ -74,4 +77,25 @@ pub enum Entry<A: Allocator> {
     Sampled,
     /// Octets that spell no frame, and their first fault.
     Faulty(Fault),
+}
+
+impl<A: Allocator> Entry<A> {
+    /// Whether it is a change: what the block holds is another, or the frame is not as it should be. A frame that says nothing
+    /// new is none, and neither is one that is none of the blocks', or of Sampled Values.
+    pub fn is_change(&self) -> bool
+        ensures { result ≡ is_change self.now }
+    {
+        match self {
+            Entry::Expired { .. }
+            | Entry::Switched { .. }
+            | Entry::Act { .. }
+            | Entry::Older { .. }
+            | Entry::Refused { .. }
+            | Entry::Faulty(_) => true,
+            Entry::Refreshed { .. }
+            | Entry::Repeated { .. }
+            | Entry::NotSubscribed
+            | Entry::Sampled => false,
+        }
+    }
 }

@@ -1,6 +1,6 @@
 //! The positions of the blocks that take simulated frames, so that the mode set off looks at no other block.
 
-ghost use Rattle.std.specs.Prelude.{◌≡◌, ◌+◌, ◌++◌, [], List, Some, true, false, IfOk, OnOk, OnErr, IsOk, IfSome, IfNone, length, slice_get, slice_set};
+ghost use Rattle.std.specs.Prelude.{◌≡◌, ◌≤◌, ◌+◌, ◌++◌, [], List, Some, true, false, IfOk, OnOk, OnErr, IsOk, IfSome, IfNone, length, slice_get, slice_set, vec_capacity};
 ghost use Rattle.subscribe_core.specs.declared.registers.Register.{Register as SpecRegister};
 ghost use Rattle.subscribe_core.specs.computed.Flagged.{AreFlagged, flag_at, switched_at};
 ghost use Rattle.subscribe_core.specs.computed.Indexed.{flagged_entries};
@@ -39,6 +39,7 @@ impl<A: Allocator> Flagged<A> {
         ensures entries { (registers : List SpecRegister) → AreFlagged self.old.positions.items registers → OnOk result (entries.new.items ≡ entries.old.items ++ flagged_entries 0 registers) }
         ensures quiet { (registers : List SpecRegister) → AreFlagged self.old.positions.items registers → flagged_entries {A = A} 0 registers ≡ [] → IsOk result }
         ensures flagged { (registers : List SpecRegister) → AreFlagged self.old.positions.items registers → AreFlagged self.new.positions.items registers }
+        ensures capacity { vec_capacity entries.old ≤ vec_capacity entries.new }
     {
         self.positions.sort_unstable();
         push_switched(&self.positions, entries)
@@ -64,6 +65,7 @@ fn push_switched<A: Allocator>(
 ) -> Result<(), AllocError>
     ensures entries { OnOk result (entries.new.items ≡ entries.old.items ++ switched_at positions.now) }
     ensures quiet { positions.now ≡ [] → IsOk result }
+    ensures capacity { vec_capacity entries.old ≤ vec_capacity entries.new }
 {
     for at in positions {
         entries.push(Entry::Switched { block: *at })?;

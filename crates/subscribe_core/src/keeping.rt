@@ -1,8 +1,9 @@
 //! What a subscriber keeps, and one event at it: blocks are found by name and by deadline, and each reach is counted.
 
-ghost use Rattle.std.specs.Prelude.{◌≡◌, ◌<◌, ◌≤◌, ◌+◌, ◌-◌, ◌++◌, [], ℕ, true, false, ◌⊎◌, None, Some, IfOk, OnOk, OnErr, IfErr, IsOk, length, max, position, replicate, slice_get, slice_set};
+ghost use Rattle.std.specs.Prelude.{◌≡◌, ◌<◌, ◌≤◌, ◌+◌, ◌-◌, ◌++◌, [], ℕ, true, false, ◌⊎◌, None, Some, IfOk, OnOk, OnErr, IfErr, IsOk, length, max, position, replicate, slice_get, slice_set, vec_capacity};
 ghost use Rattle.subscribe_core.specs.computed.Content.{content_by, content_of, reading_of};
 ghost use Rattle.subscribe_core.specs.computed.Deadlines.{due_count, helds};
+ghost use Rattle.subscribe_core.specs.Changes.{changes};
 ghost use Rattle.subscribe_core.specs.Looks.{expired_count, other_reaches, switched_count};
 ghost use Rattle.subscribe_core.specs.computed.Flagged.{flagged_count};
 ghost use Rattle.subscribe_core.specs.Faults.{IsFaultOf};
@@ -169,6 +170,7 @@ impl<A: Allocator + Copy> Keeper<A> {
     fn list_expired(&self, now: u64, entries: &mut Vec<Entry<A>, A>) -> Result<(), AllocError>
         ensures entries { OnOk result (entries.new.items ≡ entries.old.items ++ expired_entries now 0 self.now.state.registers) }
         ensures quiet { expired_entries {A = A} now 0 self.now.state.registers ≡ [] → IsOk result }
+        ensures capacity { vec_capacity entries.old ≤ vec_capacity entries.new }
     {
         self.deadlines.list_due(now, entries)
     }
@@ -255,6 +257,9 @@ impl<A: Allocator + Copy> Keeper<A> {
             ≤ self.old.reaches + due_count now (helds self.old.state.registers) + 2) }
         ensures err { OnErr result (self.new.state ≡ self.old.state) }
         ensures err_looks { OnErr result (self.new.looks ≡ self.old.looks) }
+        ensures capacity { vec_capacity entries.old ≤ vec_capacity entries.new }
+        ensures room { changes (switched_entries {A = A} self.old.state.mode (OfGoose (received_frame frame.now)) 0 self.old.state.blocks self.old.state.registers
+            ++ said_of now self.old.state.mode self.old.state.blocks self.old.state.registers (OfGoose (received_frame frame.now))) ≡ [] → length entries.old.items < vec_capacity entries.old → IsOk result }
     {
         let Some(at) = self.position_of(frame) else {
             entries.push(Entry::NotSubscribed)?;
@@ -300,6 +305,9 @@ impl<A: Allocator + Copy> Keeper<A> {
             ≤ self.old.reaches + due_count now (helds self.old.state.registers) + 2) }
         ensures err { OnErr result (self.new.state ≡ self.old.state) }
         ensures err_looks { OnErr result (self.new.looks ≡ self.old.looks) }
+        ensures capacity { vec_capacity entries.old ≤ vec_capacity entries.new }
+        ensures room { changes (switched_entries {A = A} self.old.state.mode (content_by (frame_at octets.now)) 0 self.old.state.blocks self.old.state.registers
+            ++ said_of now self.old.state.mode self.old.state.blocks self.old.state.registers (content_by (frame_at octets.now))) ≡ [] → length entries.old.items < vec_capacity entries.old → IsOk result }
     {
         self.know_sizes();
         match view_frame(octets) {
@@ -329,6 +337,7 @@ impl<A: Allocator + Copy> Keeper<A> {
         ensures quiet { flagged_entries {A = A} 0 self.old.state.registers ≡ [] → IsOk result }
         ensures sizes { length self.old.state.registers ≡ length self.old.state.blocks }
         ensures unchanged { self.new ≡ self.old }
+        ensures capacity { vec_capacity entries.old ≤ vec_capacity entries.new }
     {
         self.flagged.list(entries)
     }
@@ -375,6 +384,7 @@ impl<A: Allocator + Copy> Keeper<A> {
         ensures quiet { switched_entries self.old.state.mode (OfMode on) 0 self.old.state.blocks self.old.state.registers ≡ [] → IsOk result }
         ensures err { OnErr result (self.new.state ≡ self.old.state) }
         ensures err_looks { OnErr result (self.new.looks ≡ self.old.looks) }
+        ensures capacity { vec_capacity entries.old ≤ vec_capacity entries.new }
     {
         if on {
             self.set_mode(true);
@@ -404,6 +414,9 @@ impl<A: Allocator + Copy> Keeper<A> {
         ensures quiet { IsFrame kind.now ⊎ (switched_entries self.old.state.mode (content_of kind.now) 0 self.old.state.blocks self.old.state.registers ≡ [] → IsOk result) }
         ensures err { OnErr result (self.new.state ≡ self.old.state) }
         ensures err_looks { OnErr result (self.new.looks ≡ self.old.looks) }
+        ensures capacity { vec_capacity entries.old ≤ vec_capacity entries.new }
+        ensures room { changes (switched_entries self.old.state.mode (content_of kind.now) 0 self.old.state.blocks self.old.state.registers
+            ++ said_of now self.old.state.mode self.old.state.blocks self.old.state.registers (content_of kind.now)) ≡ [] → length entries.old.items < vec_capacity entries.old → IsOk result }
     {
         self.know_sizes();
         match kind {
@@ -426,6 +439,8 @@ impl<A: Allocator + Copy> Keeper<A> {
         ensures quiet { IsFrame event.now.kind ⊎ (step_entries self.old.state (reading_of event.now) ≡ [] → IsOk result) }
         ensures count { OnOk result (self.new.reaches ≤ self.old.reaches + (expired_count (step_entries self.old.state (reading_of event.now)) + other_reaches event.now.kind (step_entries self.old.state (reading_of event.now)))) }
         ensures apart { AreApart self.old.state.blocks }
+        ensures capacity { vec_capacity entries.old ≤ vec_capacity entries.new }
+        ensures room { changes (step_entries self.old.state (reading_of event.now)) ≡ [] → length entries.old.items < vec_capacity entries.old → IsOk result }
     {
         let now = self.moment.max(event.moment);
         self.list_expired(now, entries)?;
@@ -451,6 +466,8 @@ impl<A: Allocator + Copy> Keeper<A> {
         ensures counted { OnOk result (self.new.looks ≡ self.new.reaches - self.old.reaches) }
         ensures looks { OnOk result (self.new.looks ≤ expired_count entries.new.items + other_reaches event.now.kind entries.new.items) }
         ensures apart { AreApart self.old.state.blocks }
+        ensures capacity { vec_capacity entries.old ≤ vec_capacity entries.new }
+        ensures room { changes (step_entries self.old.state (reading_of event.now)) ≡ [] → 0 < vec_capacity entries.old → IsOk result }
     {
         let before = self.rows.reaches();
         entries.clear();

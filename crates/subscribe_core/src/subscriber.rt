@@ -1,8 +1,9 @@
 //! The subscriber: one event at a time.
 
-ghost use Rattle.std.specs.Prelude.{◌≡◌, ◌≤◌, ◌+◌, ◌∷◌, ◌++◌, [], List, IfOk, OnOk, OnErr, IfErr, IsOk, length};
+ghost use Rattle.std.specs.Prelude.{◌≡◌, ◌<◌, ◌≤◌, ◌+◌, ◌∷◌, ◌++◌, [], List, IfOk, OnOk, OnErr, IfErr, IsOk, length, vec_capacity};
 ghost use Rattle.subscribe_core.specs.computed.Content.{reading_of};
 ghost use Rattle.subscribe_core.specs.Entries.{AreEntriesAt};
+ghost use Rattle.subscribe_core.specs.Changes.{changes};
 ghost use Rattle.subscribe_core.specs.Looks.{expired_count, other_reaches};
 ghost use Rattle.subscribe_core.specs.Faults.{IsFaultOf};
 ghost use Rattle.subscribe_core.specs.Apart.{AreApart};
@@ -168,6 +169,10 @@ impl<A: Allocator + Copy> Subscriber<A> {
         ensures step { OnOk result (entries.new.items ≡ step_entries self.old.state (reading_of event.now)) }
         ensures state { OnOk result (self.new.state ≡ step_state self.old.state (reading_of event.now)) }
         ensures quiet_step { step_entries self.old.state (reading_of event.now) ≡ [] → IsOk result }
+
+        // A list with room for an entry keeps it, and asks for no memory where no entry of the event is a change.
+        ensures capacity { vec_capacity entries.old ≤ vec_capacity entries.new }
+        ensures quiet_changes { changes (step_entries self.old.state (reading_of event.now)) ≡ [] → 0 < vec_capacity entries.old → IsOk result }
     {
         self.keeper.step(event, entries)
     }

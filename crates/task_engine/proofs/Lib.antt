@@ -1,3 +1,4 @@
 pub mod UnwrappedReads
 pub mod EventTaskLemmas
 pub mod PassedLemmas
+pub mod AsBefore

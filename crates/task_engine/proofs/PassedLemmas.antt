@@ -43,12 +43,12 @@ use Rattle.engine_core.specs.RunOver.{IsDue, Run, RunsOver, Stops, WantsFor, end
 use Rattle.engine_core.specs.WholeRun.{SaysFirst}
 use Rattle.engine_core.proofs.InputRuns.{none_given}
 use Rattle.exchange_engines.specs.declared.engines.replay.ReplayStop.{ReplayStop}
-use Rattle.words_core.specs.CommandLine.{Asked}
+use Rattle.loss_core.specs.Periods.{Period}
 use Rattle.loss_engine.specs.LossText.{written_pieces}
 use Rattle.loss_engine.specs.computed.Judging.{events_of}
 use Rattle.loss_engine.specs.computed.LossesOver.{LossesOver}
 use Rattle.loss_engine.proofs.Judged.{AtStop, judged_beneath}
-use Rattle.task_engine.specs.EventTasks.{OverWrites, left_over, manner}
+use Rattle.task_engine.specs.EventTasks.{OverWrites, Work, left_over, manner}
 use Rattle.task_engine.specs.InputText.{capture_last, list_last}
 use Rattle.task_engine.specs.HandedOut.{PassesOver, ReachesInCapture, ReachesInList, ReadsAll}
 use Rattle.task_engine.proofs.EventTaskLemmas.{task_any}
@@ -94,8 +94,8 @@ module _ {I C F : Type 0} (reader : Reader I (Event Global) C F) (last : FaultTe
   reads_by fault allows (inr run) = inr (record { items = run.items; answer = run.answer; gave = run.read; all = ran_all reader.faults (over_in style allows last) (λ before e why is. is) stopped.ending fault old new run })
 
   -- so does a run of `losses`: what it read, the reader beneath gave
-  reads_losses : (fault : Option F) (period : Option ℕ) → LossesOver (manner style last period) reader start (stopped_at stopped.ending fault stopped.reader) old new → Either
-  reads_losses fault period w = elim w.run [
+  reads_losses : (fault : Option F) (periods : List Period) → LossesOver (manner style last periods) reader start (stopped_at stopped.ending fault stopped.reader) old new → Either
+  reads_losses fault periods w = elim w.run [
     | inl f ↦ inl (sym w.ends ∙ ap events_of f.untouched ∙ w.begins)
     | inr run ↦
         let under = judged_beneath reader.answers reader.number w.first run.read.before w.last run.items run.answer w.opens run.read.gave run.read.answered in
@@ -107,13 +107,13 @@ module _ {I C F : Type 0} (reader : Reader I (Event Global) C F) (last : FaultTe
             gave = subst (λ (x : I). Gave reader.answers x under.events under.before) w.begins under.gave;
             answered = subst (λ (x : I). reader.answers under.before under.raw x) w.ends under.answered;
           };
-          all = λ r. under.stops (ran_all reader.faults (exactly (written_pieces {C = C} (manner style last period))) (λ before e why is. cc) stopped.ending fault old new run r);
+          all = λ r. under.stops (ran_all reader.faults (exactly (written_pieces {C = C} (manner style last periods))) (λ before e why is. cc) stopped.ending fault old new run r);
         })
   ]
 
   -- a task leaves its reader untouched, or reads
-  reads : (asked : Asked) → OverWrites style asked reader last start stopped old new → Either
-  reads asked w = task_any style (left_over style reader last start stopped old new) stopped.ending stopped.fault old new reads_by reads_losses (λ u e. inl u) asked w
+  reads : (work : Work) → OverWrites style work reader last start stopped old new → Either
+  reads work w = task_any style (left_over style reader last start stopped old new) stopped.ending stopped.fault old new reads_by reads_losses (λ u e. inl u) work.manner work.asked w
 
 -- ---- what is kept
 
@@ -208,15 +208,15 @@ told_fewer {A} items octets t =
 as_many : (unwraps : Bool) (es said : List (ℕ × Event Global)) → es ≡ each_made (unwrap_where unwraps) said → length said ≡ length es
 as_many unwraps es said same = sym (ap length same ∙ length-map said (λ (e : ℕ × Event Global). (e.0, unwrap_where unwraps e.1)))
 
-module _ {R : Type 0} (left : R → Option (List ℕ)) (told : R → InputEnd) (style : Style) (asked : Asked) (unwraps : Bool) where
+module _ {R : Type 0} (left : R → Option (List ℕ)) (told : R → InputEnd) (style : Style) (work : Work) (unwraps : Bool) where
   -- of a capture
   pub capture_passes : (number : SkipOther (Unwrap (PacketReader R Global)) Global → ℕ) (old new : Option (List ℕ)) (start : SkipOther (Unwrap (PacketReader R Global)) Global) (stopped : Stopped (SkipOther (Unwrap (PacketReader R Global)) Global) (ReplayStop CaptureFault)) →
       BeginsCapture left told (under (beneath start)) → (beneath start).unwraps ≡ unwraps → passed_over start ≡ no_tally →
-      OverWrites style asked (record { answers = λ before answer after. Skips (UnwrapsEach (packets left told)) before answer after; number = number; faults = capture_faults }) capture_last start stopped old new →
+      OverWrites style work (record { answers = λ before answer after. Skips (UnwrapsEach (packets left told)) before answer after; number = number; faults = capture_faults }) capture_last start stopped old new →
       (given : List ℕ) × GivesOctets (packet_state left told (under (beneath start))).left (packet_state left told (under (beneath stopped.reader))).left given
       × PassesOver (with_each (unwrap_where unwraps) (captured_events {A = Global} (packet_state left told (under (beneath stopped.reader))).ending given)) stopped.ending (ReachesInCapture given) (passed_over stopped.reader)
   capture_passes number old new start stopped begins is none w =
-      elim (reads (record { answers = λ before answer after. Skips (UnwrapsEach (packets left told)) before answer after; number = number; faults = capture_faults }) capture_last start stopped style old new asked w) [
+      elim (reads (record { answers = λ before answer after. Skips (UnwrapsEach (packets left told)) before answer after; number = number; faults = capture_faults }) capture_last start stopped style old new work w) [
         | inl same ↦ rw same ([], none_given _, rw begins.is_open (passes_none _ stopped.ending _ _ refl (none_in_capture 0) none))
         | inr r ↦
             let g = r.gave in
@@ -239,11 +239,11 @@ module _ {R : Type 0} (left : R → Option (List ℕ)) (told : R → InputEnd) (
   -- of a list
   pub list_passes : (number : SkipOther (Unwrap (ItemReader R EventLines)) Global → ℕ) (old new : Option (List ℕ)) (start : SkipOther (Unwrap (ItemReader R EventLines)) Global) (stopped : Stopped (SkipOther (Unwrap (ItemReader R EventLines)) Global) (ReplayStop (ItemFault ListCause))) →
       BeginsList left told (under (beneath start)) → (beneath start).unwraps ≡ unwraps → passed_over start ≡ no_tally →
-      OverWrites style asked (record { answers = λ before answer after. Skips (UnwrapsEach (lines left told)) before answer after; number = number; faults = list_faults }) list_last start stopped old new →
+      OverWrites style work (record { answers = λ before answer after. Skips (UnwrapsEach (lines left told)) before answer after; number = number; faults = list_faults }) list_last start stopped old new →
       (given : List ℕ) × GivesOctets (item_state left told (under (beneath start))).left (item_state left told (under (beneath stopped.reader))).left given
       × PassesOver (with_each (unwrap_where unwraps) (listing event_rules First (item_state left told (under (beneath stopped.reader))).ending 0 given)) stopped.ending (ReachesInList (item_state left told (under (beneath stopped.reader))).ending given) (passed_over stopped.reader)
   list_passes number old new start stopped begins is none w =
-      elim (reads (record { answers = λ before answer after. Skips (UnwrapsEach (lines left told)) before answer after; number = number; faults = list_faults }) list_last start stopped style old new asked w) [
+      elim (reads (record { answers = λ before answer after. Skips (UnwrapsEach (lines left told)) before answer after; number = number; faults = list_faults }) list_last start stopped style old new work w) [
         | inl same ↦ rw same ([], none_given _, rw begins.is_open (passes_none _ stopped.ending _ _ (ap (each_made (unwrap_where unwraps)) no_event) none_in_list none))
         | inr r ↦
             let g = r.gave in

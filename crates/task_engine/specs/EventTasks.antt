@@ -15,59 +15,52 @@ use Rattle.engine_core.specs.RunOver.{FailsBefore, IsUntouched, Leaves, OfKind, 
 use Rattle.frame_engines.specs.ShowObject.{show_allows}
 use Rattle.frame_engines.specs.CheckObject.{check_event_in}
 use Rattle.inventory_engine.specs.BlocksText.{AreBlocksTexts}
-use Rattle.exchange_engines.specs.ReplayText.{AreSaid, ReplaysSo, Says, entries_in}
+use Rattle.exchange_engines.specs.ReplayText.{AreTold, ReplaysSo, Says, entries_in, plainly}
 use Rattle.exchange_engines.specs.WatchText.{AreWatchTexts}
+use Rattle.exchange_engines.specs.declared.engines.replay.ReplayManner.{ReplayManner}
 use Rattle.exchange_engines.specs.declared.engines.replay.ReplayStop.{ReplayStop}
 use Rattle.exchange_engines.specs.declared.engines.replay.ReplayStop.TheVariants as why
+use Rattle.loss_core.specs.Periods.{Period}
 use Rattle.loss_engine.specs.LossText.{Manner, written_pieces}
 use Rattle.loss_engine.specs.LossWants.{WritesLosses}
 use Rattle.loss_engine.specs.computed.LossesOver.{LossesOver}
-use Rattle.words_core.specs.CommandLine.{Asked, show, check, rewrite, list_blocks, publish, import, losses, replay, watch}
+use Rattle.words_core.specs.CommandLine.{Asked, show, check, list_blocks, losses, replay, watch}
 
 -- what settles what a task writes of events, beside the form: nothing, a text for each form, or the entries of a subscriber; `losses` writes piece by piece, and a task over something else nothing of events
 abbrev pub Settles : Asked → Type 0
 Settles show = Unit {0}
 Settles check = Unit {0}
-Settles rewrite = ⊥
 Settles list_blocks = Form → EventText Global
 Settles (replay blocks) = Says Global
-Settles publish = ⊥
 Settles (watch period id) = Form → EventText Global
-Settles import = ⊥
-Settles (losses period) = ⊥
+Settles _ = ⊥
 
--- it is that of this task
-abbrev pub IsOf : (asked : Asked) → Settles asked → Type 0
-IsOf show it = Unit {0}
-IsOf check it = Unit {0}
-IsOf rewrite it = ⊥
-IsOf list_blocks texts = AreBlocksTexts texts
-IsOf (replay blocks) says = AreSaid blocks says
-IsOf publish it = ⊥
-IsOf (watch period id) texts = AreWatchTexts period id texts
-IsOf import it = ⊥
-IsOf (losses period) it = ⊥
+-- it is that of this task, a replay in this manner
+abbrev pub IsOf : ReplayManner → (asked : Asked) → Settles asked → Type 0
+IsOf manner show it = Unit {0}
+IsOf manner check it = Unit {0}
+IsOf manner list_blocks texts = AreBlocksTexts texts
+IsOf manner (replay blocks) says = AreTold manner blocks says
+IsOf manner (watch period id) texts = AreWatchTexts period id texts
+IsOf manner _ it = ⊥
 
 -- what the task may write of an event in each form
 abbrev pub allowed_by : (asked : Asked) → Settles asked → Form → EventAllows Global
 allowed_by show it form = show_allows form
 allowed_by check it form = exactly_event (check_event_in form)
-allowed_by rewrite it form = absurd it
 allowed_by list_blocks texts form = exactly_each texts form
 allowed_by (replay blocks) says form = entries_in blocks says form
-allowed_by publish it form = absurd it
 allowed_by (watch period id) texts form = exactly_each texts form
-allowed_by import it form = absurd it
-allowed_by (losses period) it form = absurd it
+allowed_by _ it form = absurd it
 
 -- ---- what is left
 
 -- What a run over events leaves: what was untouched where nothing was read; by which fault of the input, where that may be written of an event in each form;
--- and by which fault where losses are told of streams with so many samples a second, if that is given.
+-- and by which fault where losses are told of streams with these periods.
 pub record Left (F : Type 0) : Type 1 where
   pub untouched : Type 0
   pub text : Option F → (Form → EventAllows Global) → Type 0
-  pub losses : Option F → Option ℕ → Type 0
+  pub losses : Option F → List Period → Type 0
 
 -- a run stops by this fault of its input, where that is left of it
 pub record StopsBy {F : Type 0} (IsLeft : Option F → Type 0) (stop : Option (ReplayStop F)) : Type 0 where
@@ -76,24 +69,27 @@ pub record StopsBy {F : Type 0} (IsLeft : Option F → Type 0) (stop : Option (R
   pub is_left : IsLeft fault
 
 -- the text of a task is left
-abbrev pub TextLeft : {F : Type 0} (asked : Asked) → Left F → Option F → Type 0
-TextLeft asked left fault = OfKind (IsOf asked) (λ it. left.text fault (allowed_by asked it))
+abbrev pub TextLeft : {F : Type 0} → ReplayManner → (asked : Asked) → Left F → Option F → Type 0
+TextLeft manner asked left fault = OfKind (IsOf manner asked) (λ it. left.text fault (allowed_by asked it))
 
--- what a task over events leaves in a style, and why it stops; a replay may be refused its blocks
-abbrev pub TaskLeaves : {F : Type 0} → Style → Asked → Left F → Ending → Option (ReplayStop F) → Option (List ℕ) → Option (List ℕ) → Type 0
-TaskLeaves style show left ending stop old new = StopsBy (TextLeft show left) stop
-TaskLeaves style check left ending stop old new = StopsBy (TextLeft check left) stop
-TaskLeaves style rewrite left ending stop old new = ⊥
-TaskLeaves style list_blocks left ending stop old new = StopsBy (TextLeft list_blocks left) stop
-TaskLeaves style (replay blocks) left ending stop old new = ReplaysSo left.untouched style blocks (TextLeft (replay blocks) left) ending stop old new
-TaskLeaves style publish left ending stop old new = ⊥
-TaskLeaves style (watch period id) left ending stop old new = StopsBy (TextLeft (watch period id) left) stop
-TaskLeaves style import left ending stop old new = ⊥
-TaskLeaves style (losses period) left ending stop old new = StopsBy (λ fault. left.losses fault period) stop
+-- what a task over events leaves in a style, a replay in a manner, and why it stops; a replay may be refused its blocks
+abbrev pub TaskLeaves : {F : Type 0} → Style → ReplayManner → Asked → Left F → Ending → Option (ReplayStop F) → Option (List ℕ) → Option (List ℕ) → Type 0
+TaskLeaves style manner (replay blocks) left ending stop old new = ReplaysSo left.untouched style manner blocks (TextLeft manner (replay blocks) left) ending stop old new
+TaskLeaves style manner (losses periods) left ending stop old new = StopsBy (λ fault. left.losses fault periods) stop
+TaskLeaves style manner asked left ending stop old new = StopsBy (TextLeft manner asked left) stop
+
+-- what is asked for, and in which manner a replay is done
+pub record Work : Type 0 where
+  pub asked : Asked
+  pub manner : ReplayManner
+
+-- a task that is no replay, or one in the plain manner
+abbrev pub plain_work : Asked → Work
+plain_work asked = record { asked = asked; manner = plainly }
 
 -- how losses are told in a style
-abbrev pub manner : {F : Type 0} → Style → FaultText F → Option ℕ → Manner F
-manner style last period = record { period = period; style = style; last = last }
+abbrev pub manner : {F : Type 0} → Style → FaultText F → List Period → Manner F
+manner style last periods = record { periods = periods; style = style; last = last }
 
 -- ---- over a reader
 
@@ -102,12 +98,12 @@ abbrev pub left_over : {I C F : Type 0} → Style → Reader I (Event Global) C 
 left_over style reader last start stopped old new = record {
   untouched = stopped.reader ≡ start;
   text = λ fault allows. RunsOver reader (over_in style allows last) start (stopped_at stopped.ending fault stopped.reader) old new;
-  losses = λ fault period. LossesOver (manner style last period) reader start (stopped_at stopped.ending fault stopped.reader) old new;
+  losses = λ fault periods. LossesOver (manner style last periods) reader start (stopped_at stopped.ending fault stopped.reader) old new;
 }
 
 -- what a task over a reader of events leaves in a style, and why it stops
-abbrev pub OverWrites : {I C F : Type 0} → Style → Asked → Reader I (Event Global) C F → FaultText F → I → Stopped I (ReplayStop F) → Option (List ℕ) → Option (List ℕ) → Type 0
-OverWrites style asked reader last start stopped old new = TaskLeaves style asked (left_over style reader last start stopped old new) stopped.ending stopped.fault old new
+abbrev pub OverWrites : {I C F : Type 0} → Style → Work → Reader I (Event Global) C F → FaultText F → I → Stopped I (ReplayStop F) → Option (List ℕ) → Option (List ℕ) → Type 0
+OverWrites style work reader last start stopped old new = TaskLeaves style work.manner work.asked (left_over style reader last start stopped old new) stopped.ending stopped.fault old new
 
 -- ---- of an input
 
@@ -127,7 +123,7 @@ abbrev pub left_of : {C F : Type 0} → Style → Input (Event Global) C F → F
 left_of {C = C} style input last end = record {
   untouched = IsUntouched Open end.source end.read;
   text = λ fault allows. Leaves input (over_in style allows last) end.ending fault end.source end.read end.old end.new;
-  losses = λ fault period.
-      FailsBefore (IsUntouched Open end.source end.read) (exactly (written_pieces {C = C} (manner style last period))) end.ending fault end.old end.new
-      ⊎ WritesLosses (manner style last period) input end.ending fault end.source end.read end.old end.new;
+  losses = λ fault periods.
+      FailsBefore (IsUntouched Open end.source end.read) (exactly (written_pieces {C = C} (manner style last periods))) end.ending fault end.old end.new
+      ⊎ WritesLosses (manner style last periods) input end.ending fault end.source end.read end.old end.new;
 }

@@ -21,10 +21,9 @@ use Rattle.engine_core.specs.MadeRun.{made}
 use Rattle.engine_core.specs.Run.{list_input}
 use Rattle.exchange_engines.specs.declared.engines.replay.ReplayStop.{ReplayStop}
 use Rattle.exchange_engines.specs.declared.engines.replay.ReplayStop.TheVariants as stops
-use Rattle.words_core.specs.CommandLine.{Asked}
 use Rattle.task_engine.specs.declared.stop.Stop.{Stop}
 use Rattle.task_engine.specs.declared.stop.Stop.TheVariants as stop
-use Rattle.task_engine.specs.EventTasks.{Ended, TaskLeaves, left_of}
+use Rattle.task_engine.specs.EventTasks.{Ended, TaskLeaves, Work, left_of}
 
 -- ---- the inputs
 
@@ -67,10 +66,10 @@ Tells {F} of EndsBy told = (by : Option F) × EndsBy by × (told ≡ option_map 
 -- ---- what is left
 
 -- what a task over an input of events leaves in a style, and what is told
-abbrev pub EventsTell : {C F : Type 0} → (F → Stop) → Style → Asked → Input (Event Global) C F → FaultText F → Ended → Option Stop → Type 0
-EventsTell of style asked input last end told = Tells (of_stop of) (λ by. TaskLeaves style asked (left_of style input last end) end.ending by end.old end.new) told
+abbrev pub EventsTell : {C F : Type 0} → (F → Stop) → Style → Work → Input (Event Global) C F → FaultText F → Ended → Option Stop → Type 0
+EventsTell of style work input last end told = Tells (of_stop of) (λ by. TaskLeaves style work.manner work.asked (left_of style input last end) end.ending by end.old end.new) told
 
 -- the same of a capture or of a list, where frames are unwrapped or are not, and frames of other protocols passed over or are not
-abbrev pub InputTells : Bool → Bool → Bool → Style → Asked → Ended → Option Stop → Type 0
-InputTells true unwraps skips style asked end told = EventsTell stop.Packet style asked (capture_events unwraps skips) capture_last end told
-InputTells false unwraps skips style asked end told = EventsTell of_list style asked (list_events unwraps skips) list_last end told
+abbrev pub InputTells : Bool → Bool → Bool → Style → Work → Ended → Option Stop → Type 0
+InputTells true unwraps skips style work end told = EventsTell stop.Packet style work (capture_events unwraps skips) capture_last end told
+InputTells false unwraps skips style work end told = EventsTell of_list style work (list_events unwraps skips) list_last end told

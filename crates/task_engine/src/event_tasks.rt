@@ -4,16 +4,17 @@ ghost use Rattle.block_core.specs.Period.{IsPeriod};
 ghost use Rattle.engine_core.specs.Ending.{is_write_fault};
 ghost use Rattle.engine_core.specs.EventsText.{fault_text};
 ghost use Rattle.engine_core.specs.Input.{reader_of};
-ghost use Rattle.loss_engine.specs.computed.Entries.{IsPeriodOf};
-ghost use Rattle.words_core.specs.CommandLine.{Asked, check, list_blocks, losses, replay, show, watch};
-ghost use Rattle.task_engine.specs.EventTasks.{OverWrites};
+ghost use Rattle.loss_core.specs.Periods.{ArePeriods};
+ghost use Rattle.words_core.specs.CommandLine.{check, list_blocks, losses, replay, show, watch};
+ghost use Rattle.task_engine.specs.EventTasks.{OverWrites, Work, plain_work};
 
 use block_core::Block;
 use engine_core::{Stopped, Style};
-use exchange_engines::{ReplayStop, of_input, replay_over, watch_over};
+use exchange_engines::{ReplayManner, ReplayStop, of_input, replay_over, watch_over};
 use frame_engines::{check_over, show_over};
 use inventory_engine::blocks_over;
 use list_core::{Event, InputFault, ReadItems, Sink};
+use loss_core::StreamPeriod;
 use loss_engine::{Unjudged, losses_over};
 use object_core::LastObject;
 use std::alloc::Global;
@@ -21,8 +22,8 @@ use text_core::LastLine;
 
 /// A task over events, whatever input has them.
 pub trait EventTask {
-    /// What is asked for.
-    ghost asked: { Self → Asked };
+    /// What is asked for, and in which manner a replay is done.
+    ghost asked: { Self → Work };
 
     /// Writes what is asked for of the events of a reader in a style, and hands out how that ended, why, and the reader.
     fn over<
@@ -40,9 +41,9 @@ pub trait EventTask {
 pub struct Shows;
 
 impl EventTask for Shows {
-    ghost asked = { λ _. show };
+    ghost asked = { λ _. plain_work show };
 
-    #[inline(never)]
+    #[inline(always)]
     fn over<
         F: InputFault + LastLine + LastObject + Drop,
         I: ReadItems<Global, Item = Event<Global>, Fault = F>,
@@ -57,9 +58,9 @@ impl EventTask for Shows {
 pub struct Checks;
 
 impl EventTask for Checks {
-    ghost asked = { λ _. check };
+    ghost asked = { λ _. plain_work check };
 
-    #[inline(never)]
+    #[inline(always)]
     fn over<
         F: InputFault + LastLine + LastObject + Drop,
         I: ReadItems<Global, Item = Event<Global>, Fault = F>,
@@ -74,9 +75,9 @@ impl EventTask for Checks {
 pub struct ListsBlocks;
 
 impl EventTask for ListsBlocks {
-    ghost asked = { λ _. list_blocks };
+    ghost asked = { λ _. plain_work list_blocks };
 
-    #[inline(never)]
+    #[inline(always)]
     fn over<
         F: InputFault + LastLine + LastObject + Drop,
         I: ReadItems<Global, Item = Event<Global>, Fault = F>,
@@ -86,9 +87,11 @@ impl EventTask for ListsBlocks {
     }
 }
 
-/// One line an entry of a subscriber of these control blocks. The flag of each block that has an entry is set.
+/// One line an entry of a subscriber of these control blocks that is told. The flag of each block that has an entry is set.
 #[derive(Drop)]
 pub struct Replays<'a> {
+    /// How frames are taken, and what is told of them.
+    pub manner: ReplayManner,
     /// The control blocks.
     pub blocks: Vec<Block<Global>, Global>,
     /// A flag for each of them, by its position.
@@ -96,16 +99,20 @@ pub struct Replays<'a> {
 }
 
 impl EventTask for Replays<'_> {
-    ghost asked = { λ s. replay s.blocks.items };
+    ghost asked = { λ s. record { asked = replay s.blocks.items; manner = s.manner } };
 
-    #[inline(never)]
+    #[inline(always)]
     fn over<
         F: InputFault + LastLine + LastObject + Drop,
         I: ReadItems<Global, Item = Event<Global>, Fault = F>,
         W: Sink,
     >(self, alloc: Global, style: Style, events: I, writer: &mut W) -> Stopped<I, ReplayStop<F>> {
-        let Replays { blocks, heard } = self;
-        replay_over(alloc, style, events, blocks, heard, writer)
+        let Replays {
+            manner,
+            blocks,
+            heard,
+        } = self;
+        replay_over(alloc, style, manner, events, blocks, heard, writer)
     }
 }
 
@@ -120,9 +127,9 @@ pub struct Watches<'a> {
 }
 
 impl EventTask for Watches<'_> {
-    ghost asked = { λ s. watch s.period s.id.now };
+    ghost asked = { λ s. plain_work (watch s.period s.id.now) };
 
-    #[inline(never)]
+    #[inline(always)]
     fn over<
         F: InputFault + LastLine + LastObject + Drop,
         I: ReadItems<Global, Item = Event<Global>, Fault = F>,
@@ -136,23 +143,23 @@ impl EventTask for Watches<'_> {
 /// What is missing of each control block and stream, and at the end of the input what has not come back and what came in all.
 #[derive(Drop)]
 pub struct TellsLosses<'a> {
-    /// How many samples a second streams have, where that is given; else they are counted alone.
-    pub period: Option<u32>,
+    /// The periods of streams; one without a period is counted alone.
+    pub periods: Vec<StreamPeriod<Global>, Global>,
     /// The streams that are counted alone.
     pub unjudged: &'a mut Unjudged<Global>,
-    ghost is_period: { IsPeriodOf period },
+    ghost are_periods: { ArePeriods periods.items },
 }
 
 impl EventTask for TellsLosses<'_> {
-    ghost asked = { λ s. losses s.period };
+    ghost asked = { λ s. plain_work (losses s.periods.items) };
 
-    #[inline(never)]
+    #[inline(always)]
     fn over<
         F: InputFault + LastLine + LastObject + Drop,
         I: ReadItems<Global, Item = Event<Global>, Fault = F>,
         W: Sink,
     >(self, alloc: Global, style: Style, events: I, writer: &mut W) -> Stopped<I, ReplayStop<F>> {
-        let TellsLosses { period, unjudged } = self;
-        of_input(losses_over(alloc, style, events, period, unjudged, writer))
+        let TellsLosses { periods, unjudged } = self;
+        of_input(losses_over(alloc, style, events, periods, unjudged, writer))
     }
 }

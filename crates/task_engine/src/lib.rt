@@ -1,5 +1,5 @@
 //! What a task asks for is done by its engine: over a list, a script or a capture, by its options; and why the input ended a run
-//! is said as a sentence, with what to do about it.
+//! is said as a sentence, with what its line tells to do about it.
 #![tactic(auto)]
 
 mod advising;
@@ -9,8 +9,8 @@ mod performed;
 mod performing;
 mod stop;
 
-pub use crate::advising::{Advice, Intake, advice_by_head};
-pub use crate::performed::{Performed, Told};
-pub use crate::performing::{perform, perform_request};
+pub use crate::advising::Advice;
+pub use crate::performed::{Notes, Performed, Told};
+pub use crate::performing::perform;
 pub use crate::stop::Stop;
 pub use loss_engine::Unjudged;

@@ -1,4 +1,4 @@
-//! What a task leaves, of what its engine's run hands out.
+//! What a task notes, and what it leaves, of what its engine's run hands out.
 ghost use Rattle.std.specs.Prelude.{◌≡◌, None, Some, option_map};
 ghost use Rattle.list_core.specs.ItemReader.{item_state};
 ghost use Rattle.capture_core.specs.PacketReader.{packet_state};
@@ -14,9 +14,19 @@ use engine_core::{Ending, Stopped};
 use exchange_engines::ReplayStop;
 use frame_core::{PassedOver, SkipOther};
 use list_core::{EventLines, ItemFault, ItemReader, ListCause, Source, fault_of_list};
+use loss_engine::Unjudged;
 use script_core::{ScriptCause, ScriptLines};
 use std::alloc::Global;
 use unwrap_core::Unwrap;
+
+/// What a task notes of its events, beside what it writes.
+#[derive(Drop)]
+pub struct Notes {
+    /// A flag for each control block of a replay, by its position: it is set where the block has an entry, if there is one.
+    pub heard: Vec<bool, Global>,
+    /// The streams that `losses` counts alone.
+    pub unjudged: Unjudged<Global>,
+}
 
 /// What is told of the fault by which a task ended.
 #[derive(Drop)]
@@ -61,34 +71,6 @@ fn told_of_list<R: Source>(fault: &ItemFault<ListCause>, events: &ItemReader<R, 
 {
     let fault = fault_of_list(fault);
     told_of(Stop::List(fault), fault.line, events)
-}
-
-// What a task leaves that ran over a list of events.
-#[inline(never)]
-pub fn of_events<R: Source>(
-    stopped: Stopped<ItemReader<R, EventLines>, ItemFault<ListCause>>,
-) -> Performed<R>
-    ensures ending { result.ending ≡ stopped.ending }
-    ensures left { R.left result.reader ≡ (item_state R.left R.ending stopped.reader).left }
-    ensures source { R.ending result.reader ≡ (item_state R.left R.ending stopped.reader).ending }
-    ensures told { stop_of result.told ≡ option_map of_list stopped.fault }
-    ensures passed { result.passed ≡ None }
-{
-    let Stopped {
-        ending,
-        fault,
-        reader,
-    } = stopped;
-    let told = match &fault {
-        Some(fault) => Some(told_of_list(fault, &reader)),
-        None => None,
-    };
-    Performed {
-        ending,
-        told,
-        passed: None,
-        reader: reader.into_reader(),
-    }
 }
 
 // The line of a fault of a script.
@@ -233,9 +215,9 @@ fn told_of_events<R: Source>(
     }
 }
 
-/// What a task leaves that ran over the events of a list, in a style.
+/// What a task leaves that ran over the events of a list.
 #[inline(never)]
-pub fn of_styled_events<R: Source>(
+pub fn of_list_events<R: Source>(
     stopped: Stopped<ItemReader<R, EventLines>, ReplayStop<ItemFault<ListCause>>>,
 ) -> Performed<R>
     ensures ending { result.ending ≡ stopped.ending }

@@ -1,9 +1,7 @@
 -- Words that ask for a task are taken, and that task is theirs, with the options that stand there.
-use Rattle.std.proofs.Common.{◌≡◌, ◌&&◌, ◌∙◌, ◌+◌, ◌≤◌, ℕ, Bool, true, false, true≢false, List, [], ◌∷◌, ◌++◌, length, Option, Some, None, Ok, is_some, option_and_then, inl, inr, refl, sym, ap, ap₂, subst, arith}
+use Rattle.std.proofs.Common.{◌≡◌, ◌∙◌, ◌+◌, ◌≤◌, ℕ, true, false, true≢false, List, [], ◌∷◌, ◌++◌, length, Option, Some, None, Ok, is_some, option_and_then, inl, inr, refl, sym, ap, ap₂, subst, arith}
 use Rattle.std.specs.Prelude.{codes, if◌then◌else◌}
 use Rattle.std.specs.Global.{Global}
-use Rattle.std.specs.List.{list_all}
-use Rattle.std.specs.Str.{bytes_eq}
 use Rattle.clap.specs.Lexer.{usize_max}
 use Rattle.clap.specs.Words.{Row, Text}
 use Rattle.clap.specs.Simple.{entered}
@@ -11,49 +9,20 @@ use Rattle.clap.specs.Takes.{entered_passes, level_passes}
 use Rattle.clap.specs.Walk.{idle, nothing_held, rows_after, subcommand_met}
 use Rattle.clap.proofs.OnLiterals.{clap_on_literals}
 use Rattle.block_core.specs.declared.block.Block.{Block}
+use Rattle.loss_core.specs.Periods.{Period}
 use Rattle.words_core.specs.declared.option_words.Options.{Options}
 use Rattle.words_core.specs.CommandLine.{Asked, check, import, list_blocks, losses, name_of, publish, replay, rewrite, show, takes_options, task_asked, watch}
-use Rattle.words_core.specs.RequestLine.{AsksByNameWith, AsksLossesWith, AsksReplayWith, AsksWatchWith, AsksWith, Switch, is_on, is_option, request_asked, switch_word, times}
+use Rattle.words_core.specs.RequestLine.{AsksByNameWith, AsksLossesWith, AsksReplayWith, AsksWatchWith, AsksWith, Switch, is_on, request_asked, switch_word, times}
 use Rattle.words_core.proofs.AskingWords.{line, names, stops}
-use Rattle.words_core.proofs.LossesWords.{in_both, losses_asked_for}
+use Rattle.words_core.proofs.LossesWords.{losses_asked_for}
 use Rattle.words_core.proofs.NamedWords.{IsTaken, all_off, at_most, taken_behind, wished}
 use Rattle.words_core.proofs.OptionRows.{AtMostOnce, times_of, use_all, words_of}
 use Rattle.words_core.proofs.OptionWalks.{dashes, level_ends}
 use Rattle.words_core.proofs.PlainWords.{IsEnd, plain_leaf, plain_rows, plain_set}
-use Rattle.words_core.proofs.ReplayWords.{replay_asked_for, some_option}
-use Rattle.words_core.proofs.Switches.{no_options}
+use Rattle.words_core.proofs.ReplayWords.{replay_asked_for}
+use Rattle.words_core.proofs.SwitchWords.{all_append, as_switches, times_append}
+use Rattle.words_core.proofs.Switches.{AreAll, is_common, no_options}
 use Rattle.words_core.proofs.WatchWords.{in_all, watch_asked_for}
-
--- words that are options, as options
-abbrev Switches : List Text → Type 0
-Switches words = (os : List Switch) × (words ≡ words_of os)
-
-anded : (a b : Bool) → (a && b) ≡ true → (a ≡ true) × (b ≡ true)
-anded true b e = (refl, e)
-anded false b e = absurd (true≢false (sym e))
-
-as_switches : (words : List Text) → list_all is_option words ≡ true → Switches words
-as_switches [] e = ([], refl)
-as_switches (word ∷ words) e =
-    let parts = anded (is_option word) (list_all is_option words) e in
-    let first = some_option word parts.0 in
-    let rest = as_switches words parts.1 in
-    (first.0 ∷ rest.0, ap₂ (λ (w : Text) (l : List Text). w ∷ l) first.1 rest.1)
-
-all_append : (first second : List Text) → list_all is_option (first ++ second) ≡ true → (list_all is_option first ≡ true) × (list_all is_option second ≡ true)
-all_append [] second e = (refl, e)
-all_append (word ∷ first) second e =
-    let parts = anded (is_option word) (list_all is_option (first ++ second)) e in
-    let rest = all_append first second parts.1 in
-    (rw (parts.0, rest.0) refl, rest.1)
-
-times_append : (word : Text) (first second : List Text) → times word (first ++ second) ≡ times word first + times word second
-times_append word [] second = omega arith
-times_append word (x ∷ first) second = go (bytes_eq x word) refl (times_append word first second)
-  where
-    go : (b : Bool) → bytes_eq x word ≡ b → times word (first ++ second) ≡ times word first + times word second → times word (x ∷ first ++ second) ≡ times word (x ∷ first) + times word second
-    go true t later = rw t (omega (arith, later))
-    go false t later = rw t later
 
 -- a task whose subcommand takes options alone
 record TakesThem (t : Asked) : Type 0 where
@@ -75,16 +44,16 @@ there_is : (t : Asked) (rest : List Text) (o : Option (Text × List Row)) → o 
 there_is t rest None e = cc
 there_is t rest (Some r) e = refl
 
-options_asked : (t : Asked) → TakesThem t → (called : Text) (os : List Switch) (mark : List Text) (options : Options) → IsEnd mark → ((o : Switch) → times_of o os ≡ (if is_on options o then 1 else 0))
+options_asked : (t : Asked) → TakesThem t → (called : Text) (os : List Switch) → AreAll is_common os → (mark : List Text) (options : Options) → IsEnd mark → ((o : Switch) → times_of o os ≡ (if is_on options o then 1 else 0))
     → IsTaken (called ∷ name_of t ∷ (words_of os ++ mark)) t options
-options_asked t k called os mark options end gives =
+options_asked t k called os all mark options end gives =
     let rest = words_of os ++ mark in
     let rows = rows_after (plain_leaf true t).rules [] rest in
     let new : AtMostOnce (λ o. 0) os = λ o. let m = at_most (is_on options o) (times_of o os) (gives o) in omega (arith, m) in
-    let ended = plain_rows t os mark end new in
+    let ended = plain_rows t os all mark end new in
     let level = level_ends (plain_leaf true t) (use_all os) rest ended refl refl refl in (
       ap (λ (o : Option (Text × List Text)). option_and_then request_asked (entered line o)) (stops (name_of t) (name_of t) rest k.met) ∙ ap (option_and_then request_asked) (k.enters rest)
-          ∙ wished options rows (λ o. times_of o os) t (task_asked (name_of t, rows)) (k.asks rows) (plain_set t os mark end new) gives,
+          ∙ wished options rows (λ o. times_of o os) t (task_asked (name_of t, rows)) (k.asks rows) (plain_set t os all mark end new) gives,
       taken_behind called (name_of t) rest k.met (there_is t rest (entered line (Some (name_of t, rest))) (k.enters rest)) (k.passes rest level),
     )
 
@@ -93,7 +62,7 @@ with_options_asked words t options k a =
     let os = as_switches a.given a.are_options in
     let gives : (o : Switch) → times_of o os.0 ≡ (if is_on options o then 1 else 0) = λ o. sym (ap (times (switch_word o)) os.1) ∙ a.give o in
     let same : a.called ∷ name_of t ∷ (words_of os.0 ++ a.mark) ≡ words = ap (λ (l : List Text). a.called ∷ name_of t ∷ (l ++ a.mark)) (sym os.1) ∙ sym a.behind in
-    subst (λ (w : List Text). IsTaken w t options) same (options_asked t k a.called os.0 a.mark options a.end gives)
+    subst (λ (w : List Text). IsTaken w t options) same (options_asked t k a.called os.0 os.2 a.mark options a.end gives)
 
 -- a task whose subcommand takes none
 name_alone : (called : Text) (t : Asked) → takes_options t ≡ false → (IsTaken (called ∷ name_of t ∷ []) t no_options) × (IsTaken (called ∷ name_of t ∷ dashes ∷ []) t no_options)
@@ -106,7 +75,7 @@ name_alone called check e = absurd (true≢false e)
 name_alone called list_blocks e = absurd (true≢false e)
 name_alone called (replay blocks) e = absurd (true≢false e)
 name_alone called (watch period id) e = absurd (true≢false e)
-name_alone called (losses period) e = absurd (true≢false e)
+name_alone called (losses periods) e = absurd (true≢false e)
 
 without_options_asked : (words : List Text) (t : Asked) (options : Options) → takes_options t ≡ false → AsksByNameWith words t options → IsTaken words t options
 without_options_asked words t options none a =
@@ -141,27 +110,15 @@ watch_with_asked words period id options a =
     let m : times (switch_word o) a.between ≡ times_of o middle.0 = ap (times (switch_word o)) middle.1 in
     let l : times (switch_word o) a.after ≡ times_of o after.0 = ap (times (switch_word o)) after.1 in
     omega (arith, all, rest, give, b, m, l) in
-    let taken = watch_asked_for a.alone period id options a.asks before.0 middle.0 after.0 gives in
+    let taken = watch_asked_for a.alone period id options a.asks before.0 middle.0 after.0 before.2 middle.2 after.2 gives in
     let same : a.asks.called ∷ codes "watch" ∷ (words_of before.0 ++ (a.asks.first ++ (words_of middle.0 ++ (a.asks.second ++ words_of after.0)))) ≡ words =
     ap (λ (l : List Text). a.asks.called ∷ codes "watch" ∷ (l ++ (a.asks.first ++ (words_of middle.0 ++ (a.asks.second ++ words_of after.0))))) (sym before.1)
     ∙ ap₂ (λ (m l : List Text). a.asks.called ∷ codes "watch" ∷ (a.before ++ (a.asks.first ++ (m ++ (a.asks.second ++ l))))) (sym middle.1) (sym after.1) ∙ sym a.behind in
     subst (λ (w : List Text). IsTaken w (watch period id) options) same taken
 
-losses_with_asked : (words : List Text) (period : Option ℕ) (options : Options) → AsksLossesWith words period options → IsTaken words (losses period) options
-losses_with_asked words period options a =
-    let parts = all_append a.before a.after a.are_options in
-    let before = as_switches a.before parts.0 in
-    let after = as_switches a.after parts.1 in
-    let gives : (o : Switch) → in_both before.0 after.0 o ≡ (if is_on options o then 1 else 0) = λ o.
-    let all = times_append (switch_word o) a.before a.after in
-    let give = a.give o in
-    let b : times (switch_word o) a.before ≡ times_of o before.0 = ap (times (switch_word o)) before.1 in
-    let l : times (switch_word o) a.after ≡ times_of o after.0 = ap (times (switch_word o)) after.1 in
-    omega (arith, all, give, b, l) in
-    let taken = losses_asked_for a.called period a.said options a.says before.0 after.0 a.mark a.end gives in
-    let same : a.called ∷ codes "losses" ∷ ((words_of before.0 ++ (a.said ++ words_of after.0)) ++ a.mark) ≡ words =
-    ap₂ (λ (b l : List Text). a.called ∷ codes "losses" ∷ ((b ++ (a.said ++ l)) ++ a.mark)) (sym before.1) (sym after.1) ∙ sym a.behind in
-    subst (λ (w : List Text). IsTaken w (losses period) options) same taken
+losses_with_asked : (words : List Text) (periods : List Period) (options : Options) → AsksLossesWith words periods options → IsTaken words (losses periods) options
+losses_with_asked words periods options a =
+    subst (λ (w : List Text). IsTaken w (losses periods) options) (sym a.behind) (losses_asked_for a.called periods a.arguments a.others a.mark options a.says a.are_options a.end a.give)
 
 pub asked_with : (words : List Text) (t : Asked) (options : Options) → length words ≤ usize_max → AsksWith words t options → IsTaken words t options
 asked_with words show options fits a = with_options_asked words show options show_takes a
@@ -172,4 +129,4 @@ asked_with words publish options fits a = without_options_asked words publish op
 asked_with words import options fits a = without_options_asked words import options refl a
 asked_with words (replay blocks) options fits a = replay_with_asked words blocks options fits a
 asked_with words (watch period id) options fits a = watch_with_asked words period id options a
-asked_with words (losses period) options fits a = losses_with_asked words period options a
+asked_with words (losses periods) options fits a = losses_with_asked words periods options a

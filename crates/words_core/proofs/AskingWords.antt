@@ -14,7 +14,8 @@ use Rattle.clap.specs.Walk.{Names, Walk, answers_to, idle, nothing_held, rows_af
 use Rattle.clap.proofs.OnLiterals.{clap_on_literals}
 use Rattle.clap.proofs.WalkLemmas.{find-map}
 use Rattle.block_core.specs.declared.block.Block.{Block}
-use Rattle.words_core.specs.CommandLine.{Asked, Meaning, Subcommand, blocks_in, check, first_bad_block, import, is_plain, list_blocks, losing, losses, losses_shape, name_of, number_said, plain, publish, replay, replay_of, replay_shape, replaying, rewrite, show, subcommands, takes_options, task_asked, watch, watch_shape, watching}
+use Rattle.loss_core.specs.Periods.{Period}
+use Rattle.words_core.specs.CommandLine.{Asked, Meaning, Subcommand, blocks_in, check, first_bad_block, first_bad_period, import, is_plain, list_blocks, losing, losses, losses_shape, name_of, no_block, no_period, number_said, periods_in, plain, publish, replay, replay_of, replay_shape, replaying, rewrite, show, subcommands, takes_options, task_asked, watch, watch_shape, watching}
 use Rattle.words_core.proofs.KeptRows.{first_none, leaf, then_none}
 use Rattle.words_core.specs.declared.option_words.Options.{Options}
 use Rattle.words_core.specs.RequestLine.{AsksByNameWith, AsksWith, Switch, Wish, is_on, is_option, is_reading, is_set, offered, options_in, request_asked, request_line, request_of_words, switch_name, with_these}
@@ -22,7 +23,7 @@ use Rattle.words_core.proofs.LoneFlags.{AreFlags, help_flag, lone_mark, version_
 use Rattle.words_core.proofs.OptionRows.{once_if, times_of, words_of}
 use Rattle.words_core.proofs.OptionWalks.{dashes}
 use Rattle.words_core.proofs.PlainWords.{IsEnd, given, none_given_at, none_yet, plain_leaf, plain_set}
-use Rattle.words_core.proofs.Switches.{an_option, both_false, is_on_in}
+use Rattle.words_core.proofs.Switches.{AreAll, an_option, both_false, first_has, is_common, is_on_in}
 
 -- the built command, its words before a subcommand, and the names of its subcommands
 abbrev pub line : App
@@ -51,9 +52,9 @@ no_wish w e = cc
 no_pair : (r : Text × List Row) → None ≡ Some r → ⊥
 no_pair r e = cc
 
-all_options : (os : List Switch) → list_all is_option (words_of os) ≡ true
-all_options [] = refl
-all_options (o ∷ os) = rw (an_option o) (all_options os)
+all_options : (os : List Switch) → AreAll is_common os → list_all is_option (words_of os) ≡ true
+all_options [] all = refl
+all_options (o ∷ os) all = let taken = first_has is_common o os all in rw (an_option o taken.0) (all_options os taken.1)
 
 -- ---- a subcommand is met by its name
 
@@ -94,7 +95,7 @@ asked_or d (Some (Err i)) = d
 named_plain : (u : Asked) → HasName (plain u)
 named_plain u rows t e = sym (ap (λ (o : Option Meaning). name_of (asked_or u o)) e)
 
-replay_named : (o : Option ℕ) (blocks : List (Block Global)) (t : Asked) → option_map_or Err o (Ok (replay blocks)) ≡ Ok t → name_of t ≡ name_of (replay [])
+replay_named : (o : Option ℕ) (blocks : List (Block Global)) (t : Asked) → option_map_or (λ i. Err (no_block i)) o (Ok (replay blocks)) ≡ Ok t → name_of t ≡ name_of (replay [])
 replay_named None blocks t e = sym (ap (λ (m : Meaning). name_of (asked_or t (Some m))) e)
 replay_named (Some i) blocks t e = cc
 
@@ -114,8 +115,14 @@ watch_named (Some n) (Some id) t e = sym (ap (λ (o : Option Meaning). name_of (
 named_watch : HasName watching
 named_watch rows t e = watch_named (option_and_then number_said (one_of (codes "period") rows)) (first_of (codes "id") rows) t e
 
+losses_named : (o : Option ℕ) (periods : List Period) (t : Asked) → option_map_or (λ i. Err (no_period i)) o (Ok (losses periods)) ≡ Ok t → name_of t ≡ name_of (losses [])
+losses_named None periods t e = sym (ap (λ (m : Meaning). name_of (asked_or t (Some m))) e)
+losses_named (Some i) periods t e = cc
+
 named_losses : HasName losing
-named_losses rows t e = sym (ap (λ (o : Option Meaning). name_of (asked_or t o)) e)
+named_losses rows t e =
+    let said = unwrap_or (all_of (codes "period") rows) [] in
+    losses_named (first_bad_period said) (periods_in said) t (ap (λ (m : Option Meaning). unwrap_or m (Ok t)) e)
 
 all_named : Named subcommands
 all_named = (named_plain show, (named_plain check, (named_plain rewrite, (named_plain list_blocks, (named_replay, (named_plain publish, (named_watch, (named_losses, (named_plain import, tt)))))))))
@@ -163,6 +170,7 @@ takes_by_name name = list_any (λ t. bytes_eq (name_of t) name) (show ∷ check 
 -- nothing or the mark
 record Behind (s : Shape) (words : List Text) : Type 0 where
   options : List Switch
+  all : AreAll is_common options
   mark : List Text
   are : words ≡ words_of options ++ mark
   end : IsEnd mark
@@ -187,17 +195,18 @@ unset t mark end o = elim end [
 plain_has_none : (u : Asked) → HasOptions (plain_leaf false u)
 plain_has_none u t plainly name words r e =
     let end = none_given_at u words r e in
-    record { options = []; mark = words; are = refl; end = end; sets = unset u words end; none = λ f. refl }
+    record { options = []; all = refl; mark = words; are = refl; end = end; sets = unset u words end; none = λ f. refl }
 
 plain_has : (u : Asked) → takes_by_name (name_of u) ≡ true → HasOptions (plain_leaf true u)
 plain_has u takes t plainly name words r e =
     let g = given u words (λ o. 0) [] none_yet r e in
     record {
       options = g.options;
+      all = g.all;
       mark = g.mark;
       are = g.are;
       end = g.end;
-      sets = λ o. subst (λ (w : List Text). times_of o g.options ≡ (if is_set (switch_name o) (rows_after (plain_leaf true u).rules [] w) then 1 else 0)) (sym g.are) (plain_set u g.options g.mark g.end g.new o);
+      sets = λ o. subst (λ (w : List Text). times_of o g.options ≡ (if is_set (switch_name o) (rows_after (plain_leaf true u).rules [] w) then 1 else 0)) (sym g.are) (plain_set u g.options g.all g.mark g.end g.new o);
       none = λ f. absurd (true≢false (sym takes ∙ f));
     }
 
@@ -214,7 +223,7 @@ other_name publish name e other n = true≢false (subst (λ (w : Text). is_plain
 other_name import name e other n = true≢false (subst (λ (w : Text). is_plain_name w ≡ false) (sym n) other)
 other_name (replay blocks) name e other n = true≢false (sym e)
 other_name (watch period id) name e other n = true≢false (sym e)
-other_name (losses period) name e other n = true≢false (sym e)
+other_name (losses periods) name e other n = true≢false (sym e)
 
 other_has_none : (s : Shape) → is_plain_name s.name ≡ false → HasOptions s
 other_has_none s other t e n words r f = absurd (other_name t s.name e other n)
@@ -249,6 +258,7 @@ found_has (x ∷ xs) h test s f = go (test x) refl (found_has xs h.1 test s)
 pub record NamesPlainly (words : List Text) (t : Asked) (options : Options) : Type 0 where
   pub called : Text
   pub given : List Switch
+  pub all : AreAll is_common given
   pub mark : List Text
   pub are : words ≡ called ∷ name_of t ∷ (words_of given ++ mark)
   pub end : IsEnd mark
@@ -258,6 +268,7 @@ pub record NamesPlainly (words : List Text) (t : Asked) (options : Options) : Ty
 -- what stands behind the name, with the options of its rows
 record Below (t : Asked) (words : List Text) (rows : List Row) : Type 0 where
   options : List Switch
+  all : AreAll is_common options
   mark : List Text
   are : words ≡ words_of options ++ mark
   end : IsEnd mark
@@ -278,6 +289,7 @@ below name words r t plainly named reading e f = go (find (λ s. answers_to name
         let has = found_has line.subs (all_have) (λ s. answers_to name (label_of s)) s g t plainly (named ∙ sym is) words reading (first_none (walk_fault s [] (walk_from nothing_held) words) _ level) in
         record {
           options = has.options;
+          all = has.all;
           mark = has.mark;
           are = has.are;
           end = has.end;
@@ -331,6 +343,7 @@ subcommand_asks p word name words t options plainly reading m f e = go (entered 
         record {
           called = p;
           given = b.options;
+          all = b.all;
           mark = b.mark;
           are = ap₂ (λ (w : Text) (l : List Text). p ∷ w ∷ l) is b.are;
           end = b.end;
@@ -370,7 +383,7 @@ asks_with words publish options e a = a
 asks_with words import options e a = a
 asks_with words (replay blocks) options e a = absurd (true≢false (sym e))
 asks_with words (watch period id) options e a = absurd (true≢false (sym e))
-asks_with words (losses period) options e a = absurd (true≢false (sym e))
+asks_with words (losses periods) options e a = absurd (true≢false (sym e))
 
 takes_none : (t : Asked) → is_plain t ≡ true → takes_options t ≡ false → takes_by_name (name_of t) ≡ false
 takes_none show e f = absurd (true≢false f)
@@ -381,7 +394,7 @@ takes_none publish e f = refl
 takes_none import e f = refl
 takes_none (replay blocks) e f = absurd (true≢false f)
 takes_none (watch period id) e f = absurd (true≢false f)
-takes_none (losses period) e f = absurd (true≢false f)
+takes_none (losses periods) e f = absurd (true≢false f)
 
 pub words_ask_with : (words : List Text) (t : Asked) (options : Options) → fault_of request_line words ≡ [] → request_of_words words ≡ Some (Ok (t, options)) → is_plain t ≡ true → list_any is_reading words ≡ false → AsksWith words t options
 words_ask_with words t options f e plainly reading =
@@ -391,7 +404,7 @@ words_ask_with words t options f e plainly reading =
       given = words_of n.given;
       mark = n.mark;
       behind = n.are;
-      are_options = all_options n.given;
+      are_options = all_options n.given n.all;
       give = n.gives;
       taken = λ h. ap words_of (n.none (takes_none t plainly h));
       end = n.end;

@@ -3,6 +3,9 @@ pub mod OptionRows
 pub mod KeptRows
 pub mod OptionWalks
 pub mod WatchRows
+pub mod SaidTexts
+pub mod Digits
+pub mod PeriodWords
 pub mod LossesRows
 pub mod WordLemmas
 pub mod LoneFlags
@@ -12,6 +15,7 @@ pub mod BlockWords
 pub mod NamedWords
 pub mod ReplayWords
 pub mod WatchWords
+pub mod SwitchWords
 pub mod LossesWords
 pub mod AskedWords
 pub mod StandardFacts

@@ -11,7 +11,8 @@ use Rattle.clap.specs.Walk.{has_row, reading_by, row_text, stronger, used, with_
 use Rattle.clap.specs.declared.builder.value_parser.Reading.{Reading}
 use Rattle.clap.specs.declared.parser.matches.ValueSource.{ValueSource}
 use Rattle.clap.specs.declared.parser.matches.ValueSource.TheVariants.{CommandLine, DefaultValue}
-use Rattle.words_core.specs.RequestLine.{Switch, capture, is_set, json, option_named, raw, read_rule, skip_other, switch_name, switch_word, time, times, unwrap}
+use Rattle.words_core.specs.CommandLine.{option_named}
+use Rattle.words_core.specs.RequestLine.{Switch, capture, changes, is_set, json, raw, read_rule, simulation, skip_other, switch_name, switch_word, time, times, unwrap}
 
 abbrev pub once_if : Bool → ℕ
 once_if b = if b then 1 else 0
@@ -168,6 +169,8 @@ one_name unwrap unwrap e = refl
 one_name raw raw e = refl
 one_name time time e = refl
 one_name json json e = refl
+one_name changes changes e = refl
+one_name simulation simulation e = refl
 one_name _ _ e = absurd (true≢false (sym e))
 
 -- one use more

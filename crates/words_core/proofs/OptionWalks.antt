@@ -1,5 +1,5 @@
 -- Words lead a walk from one state to another: those of the options, and the mark at the end.
-use Rattle.std.proofs.Common.{◌≡◌, ◌&&◌, ◌∙◌, ℕ, Bool, true, false, List, [], ◌∷◌, ◌++◌, Option, None, refl, sym, ap, subst}
+use Rattle.std.proofs.Common.{◌≡◌, ◌&&◌, ◌∙◌, ℕ, Bool, true, false, true≢false, List, [], ◌∷◌, ◌++◌, Option, None, refl, sym, ap, subst}
 use Rattle.std.specs.Prelude.{fold}
 use Rattle.std.specs.List.{list_all}
 use Rattle.std.proofs.lemmas.List.Sums.{fold-append}
@@ -8,8 +8,9 @@ use Rattle.clap.specs.Takes.{default_passes, is_valid, level_passes, settle_pass
 use Rattle.clap.specs.Walk.{Held, Waiting, Walk, finished, has_row, idle, nothing_held, option, positional, rows_after, settled_rows, walk, walk_from, walked, with_default}
 use Rattle.clap.proofs.WalkLemmas.{both}
 use Rattle.words_core.specs.CommandLine.{Asked, plain}
-use Rattle.words_core.specs.RequestLine.{Switch, capture, offered, switch_name, switch_word}
+use Rattle.words_core.specs.RequestLine.{Switch, capture, changes, offered, simulation, switch_name, switch_word}
 use Rattle.words_core.proofs.KeptRows.{leaf}
+use Rattle.words_core.proofs.Switches.{AreAll, first_has, is_common}
 use Rattle.words_core.proofs.OptionRows.{AtMostOnce, Counted, counted_more, first_new, none_given, one_more, rest_new, use_all, use_switch, words_of}
 
 pub both_true : (a b : Bool) → a ≡ true → b ≡ true → (a && b) ≡ true
@@ -70,50 +71,55 @@ chain s f g first second rows pending l m = record {
 
 -- ---- the words of options
 
--- what the word of an option does, wherever it stands
-pub record TakesOptions (s : Shape) : Type 0 where
-  pub walks : (o : Switch) (waiting : Waiting) (rows : List Row) (pending : Pending)
+-- what the word of an option that is taken does, wherever it stands
+pub record TakesOptions (s : Shape) (has : Switch → Bool) : Type 0 where
+  pub walks : (o : Switch) → has o ≡ true → (waiting : Waiting) (rows : List Row) (pending : Pending)
       → walked s.rules [] (state waiting rows pending) (switch_word o) ≡ between (use_switch o (settled_to s rows pending)) None
-  pub passes : (o : Switch) (waiting : Waiting) (rows : List Row) (pending : Pending) → settles s rows pending ≡ true → has_row (switch_name o) (settled_to s rows pending) ≡ false
+  pub passes : (o : Switch) → has o ≡ true → (waiting : Waiting) (rows : List Row) (pending : Pending) → settles s rows pending ≡ true → has_row (switch_name o) (settled_to s rows pending) ≡ false
       → turn_passes s [] (state waiting rows pending) (switch_word o) ≡ true
 
-pub plain_takes : (t : Asked) → TakesOptions (leaf (offered true (plain t).shape))
+pub plain_takes : (t : Asked) → TakesOptions (leaf (offered true (plain t).shape)) is_common
 unfolding walked
 plain_takes t = record { walks = walks; passes = passes }
   where
-    walks : (o : Switch) (waiting : Waiting) (rows : List Row) (pending : Pending)
+    walks : (o : Switch) → is_common o ≡ true → (waiting : Waiting) (rows : List Row) (pending : Pending)
         → walked (leaf (offered true (plain t).shape)).rules [] (state waiting rows pending) (switch_word o) ≡ between (use_switch o (settled_to (leaf (offered true (plain t).shape)) rows pending)) None
-    walks capture idle rows pending = refl
-    walks capture (option id) rows pending = refl
-    walks capture positional rows pending = refl
-    walks _ idle rows pending = refl
-    walks _ (option id) rows pending = refl
-    walks _ positional rows pending = refl
+    walks changes g waiting rows pending = absurd (true≢false (sym g))
+    walks simulation g waiting rows pending = absurd (true≢false (sym g))
+    walks capture g idle rows pending = refl
+    walks capture g (option id) rows pending = refl
+    walks capture g positional rows pending = refl
+    walks _ g idle rows pending = refl
+    walks _ g (option id) rows pending = refl
+    walks _ g positional rows pending = refl
 
-    passes : (o : Switch) (waiting : Waiting) (rows : List Row) (pending : Pending) → settles (leaf (offered true (plain t).shape)) rows pending ≡ true
+    passes : (o : Switch) → is_common o ≡ true → (waiting : Waiting) (rows : List Row) (pending : Pending) → settles (leaf (offered true (plain t).shape)) rows pending ≡ true
         → has_row (switch_name o) (settled_to (leaf (offered true (plain t).shape)) rows pending) ≡ false → turn_passes (leaf (offered true (plain t).shape)) [] (state waiting rows pending) (switch_word o) ≡ true
-    passes capture idle rows pending s u = rw (s, u) refl
-    passes capture (option id) rows pending s u = rw (s, u) refl
-    passes capture positional rows pending s u = rw (s, u) refl
-    passes _ idle rows pending s u = rw (s, u) refl
-    passes _ (option id) rows pending s u = rw (s, u) refl
-    passes _ positional rows pending s u = rw (s, u) refl
+    passes changes g waiting rows pending s u = absurd (true≢false (sym g))
+    passes simulation g waiting rows pending s u = absurd (true≢false (sym g))
+    passes capture g idle rows pending s u = rw (s, u) refl
+    passes capture g (option id) rows pending s u = rw (s, u) refl
+    passes capture g positional rows pending s u = rw (s, u) refl
+    passes _ g idle rows pending s u = rw (s, u) refl
+    passes _ g (option id) rows pending s u = rw (s, u) refl
+    passes _ g positional rows pending s u = rw (s, u) refl
 
 -- options that were not given before
-pub options_lead : (s : Shape) → TakesOptions s → (os : List Switch) (n : Switch → ℕ) (rows : List Row) (pending : Pending) → settles s rows pending ≡ true
+pub options_lead : (s : Shape) (has : Switch → Bool) → TakesOptions s has → (os : List Switch) → AreAll has os → (n : Switch → ℕ) (rows : List Row) (pending : Pending) → settles s rows pending ≡ true
     → Counted (settled_to s rows pending) n → AtMostOnce n os → Leads s (use_all os) (words_of os) rows pending
 unfolding walk_passes
-options_lead s t [] n rows pending settling c most = record { to_rows = rows; to_pending = pending; walks = refl; settled = refl; passes = refl; settling = settling }
-options_lead s t (o ∷ os) n rows pending settling c most =
+options_lead s has t [] all n rows pending settling c most = record { to_rows = rows; to_pending = pending; walks = refl; settled = refl; passes = refl; settling = settling }
+options_lead s has t (o ∷ os) all n rows pending settling c most =
+    let taken = first_has has o os all in
     let none = first_new o os n most in
     let used_so = use_switch o (settled_to s rows pending) in
-    let rest = options_lead s t os (one_more o n) used_so None refl (counted_more o (settled_to s rows pending) n c none) (rest_new o os n most) in
+    let rest = options_lead s has t os taken.1 (one_more o n) used_so None refl (counted_more o (settled_to s rows pending) n c none) (rest_new o os n most) in
     record {
       to_rows = rest.to_rows;
       to_pending = rest.to_pending;
-      walks = ap (λ (w : Walk). fold (walked s.rules []) w (words_of os)) (t.walks o idle rows pending) ∙ rest.walks;
+      walks = ap (λ (w : Walk). fold (walked s.rules []) w (words_of os)) (t.walks o taken.0 idle rows pending) ∙ rest.walks;
       settled = rest.settled;
-      passes = both_true _ _ (t.passes o idle rows pending settling (none_given (settled_to s rows pending) n o c none)) (subst (λ (w : Walk). walk_passes s [] w (words_of os) ≡ true) (sym (t.walks o idle rows pending)) rest.passes);
+      passes = both_true _ _ (t.passes o taken.0 idle rows pending settling (none_given (settled_to s rows pending) n o c none)) (subst (λ (w : Walk). walk_passes s [] w (words_of os) ≡ true) (sym (t.walks o taken.0 idle rows pending)) rest.passes);
       settling = rest.settling;
     }
 

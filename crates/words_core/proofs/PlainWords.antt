@@ -12,12 +12,12 @@ use Rattle.clap.specs.Faults.{turn_fault, walk_fault}
 use Rattle.clap.specs.Walk.{Walk, arg_by_index, has_row, idle, rows_after, walked, with_default}
 use Rattle.clap.specs.declared.error.kind.ErrorKind.TheVariants as kind
 use Rattle.words_core.specs.CommandLine.{Asked, plain}
-use Rattle.words_core.specs.RequestLine.{Switch, begins_reading, capture, is_reading, is_set, offered, switch_name, switch_word, switches}
+use Rattle.words_core.specs.RequestLine.{Switch, begins_reading, capture, changes, is_reading, is_set, offered, simulation, switch_name, switch_word, switches}
 use Rattle.words_core.proofs.KeptRows.{leaf, no_default}
 use Rattle.words_core.proofs.OptionRows.{AtMostOnce, Counted, also_new, counted_all, counted_more, default_set, not_given, once_if, one_more, read_flag, set_where_given, switch_flag, times_of, use_all, use_switch, with_times, words_of}
 use Rattle.words_core.proofs.OptionWalks.{Ends, between, dashes, ends, ends_by_mark, options_lead, plain_takes, rows_end}
 use Rattle.words_core.proofs.LoneFlags.{AreFlags, begins_one, help_flag, is_long_of, names_one, nothing_behind, short_is_of, turn_fails, turn_none}
-use Rattle.words_core.proofs.Switches.{both_false, holds_of}
+use Rattle.words_core.proofs.Switches.{AreAll, both_false, holds_of, is_common}
 
 -- ---- the word of an option by its name
 
@@ -117,6 +117,7 @@ IsEnd mark = (mark ≡ []) ⊎ (mark ≡ dashes ∷ [])
 -- options that were not given before, and the end
 pub record Given (n : Switch → ℕ) (words : List Text) : Type 0 where
   pub options : List Switch
+  pub all : AreAll is_common options
   pub mark : List Text
   pub are : words ≡ words_of options ++ mark
   pub end : IsEnd mark
@@ -127,34 +128,38 @@ none_more n rows c o = let once = c.once o in omega (arith, once)
 
 -- an option by its long name
 abbrev Named : Text → Type 0
-Named name = (o : Switch) × (name ≡ switch_name o)
+Named name = (o : Switch) × (name ≡ switch_name o) × (is_common o ≡ true)
 
 option_by_name : (name : Text) → is_long_of (map switch_flag switches) name ≡ true → Named name
 option_by_name name e =
-    let o = holds_of (λ x. bytes_eq (switch_name x) name || false) switches e in
-    (o.0, sym ((bytes_eq-Decides (switch_name o.0) name).0 (alone (bytes_eq (switch_name o.0) name) o.1)))
+    let o = holds_of (λ x. bytes_eq (switch_name x) name || false) is_common switches refl e in
+    (o.0, sym ((bytes_eq-Decides (switch_name o.0) name).0 (alone (bytes_eq (switch_name o.0) name) o.1)), o.2)
   where
     alone : (b : Bool) → (b || false) ≡ true → b ≡ true
     alone true f = refl
     alone false f = f
 
 -- the turn at the word of an option
-turn_at : (t : Asked) (o : Switch) (rows : List Row) → turn_fault (plain_leaf true t) [] (between rows None) (switch_word o) ≡ [] → has_row (switch_name o) rows ≡ false
-turn_at t o rows e = go (has_row (switch_name o) rows) refl
+turn_at : (t : Asked) (o : Switch) → is_common o ≡ true → (rows : List Row) → turn_fault (plain_leaf true t) [] (between rows None) (switch_word o) ≡ [] → has_row (switch_name o) rows ≡ false
+turn_at t o common rows e = go (has_row (switch_name o) rows) refl
   where
-    again : (x : Switch) → has_row (switch_name x) rows ≡ true → turn_fault (plain_leaf true t) [] (between rows None) (switch_word x) ≡ kind.ArgumentConflict ∷ []
-    again capture h = rw h refl
-    again _ h = rw h refl
+    again : (x : Switch) → is_common x ≡ true → has_row (switch_name x) rows ≡ true → turn_fault (plain_leaf true t) [] (between rows None) (switch_word x) ≡ kind.ArgumentConflict ∷ []
+    again changes g h = absurd (true≢false (sym g))
+    again simulation g h = absurd (true≢false (sym g))
+    again capture g h = rw h refl
+    again _ g h = rw h refl
 
     go : (b : Bool) → has_row (switch_name o) rows ≡ b → b ≡ false
-    go true h = let bad : kind.ArgumentConflict ∷ [] ≡ [] = sym (again o h) ∙ e in cc
+    go true h = let bad : kind.ArgumentConflict ∷ [] ≡ [] = sym (again o common h) ∙ e in cc
     go false h = refl
 
 -- an option takes no value
-no_value : (t : Asked) (o : Switch) (value word : Text) (rows : List Row) → long_of word ≡ Some (switch_name o, Some value) → bytes_eq word dashes ≡ false
+no_value : (t : Asked) (o : Switch) → is_common o ≡ true → (value word : Text) (rows : List Row) → long_of word ≡ Some (switch_name o, Some value) → bytes_eq word dashes ≡ false
     → turn_fault (plain_leaf true t) [] (between rows None) word ≡ [] → ⊥
-no_value t capture value word rows l d e = let bad : kind.TooManyValues ∷ [] ≡ [] = rw (d, l) at e in cc
-no_value t _ value word rows l d e = let bad : kind.TooManyValues ∷ [] ≡ [] = rw (d, l) at e in cc
+no_value t changes g value word rows l d e = absurd (true≢false (sym g))
+no_value t simulation g value word rows l d e = absurd (true≢false (sym g))
+no_value t capture g value word rows l d e = let bad : kind.TooManyValues ∷ [] ≡ [] = rw (d, l) at e in cc
+no_value t _ g value word rows l d e = let bad : kind.TooManyValues ∷ [] ≡ [] = rw (d, l) at e in cc
 
 leaf_no_index : (takes : Bool) (t : Asked) → arg_by_index (plain_leaf takes t).rules 1 ≡ None
 leaf_no_index true t = refl
@@ -192,26 +197,27 @@ none_given_at t (word ∷ words) r e = at (bytes_eq word dashes) refl
 
 -- a word that names an option is its word
 option_at : (t : Asked) (rows : List Row) (word : Text) → bytes_eq word dashes ≡ false → names_one (map switch_flag switches) (long_of word) ≡ true
-    → turn_fault (plain_leaf true t) [] (between rows None) word ≡ [] → (o : Switch) × (word ≡ switch_word o)
+    → turn_fault (plain_leaf true t) [] (between rows None) word ≡ [] → (o : Switch) × (word ≡ switch_word o) × (is_common o ≡ true)
 option_at t rows word d named e = go (long_of word) refl named
   where
-    go : (l : Option (Text × Option Text)) → long_of word ≡ l → names_one (map switch_flag switches) l ≡ true → (o : Switch) × (word ≡ switch_word o)
+    go : (l : Option (Text × Option Text)) → long_of word ≡ l → names_one (map switch_flag switches) l ≡ true → (o : Switch) × (word ≡ switch_word o) × (is_common o ≡ true)
     go None l f = absurd (true≢false (sym f))
-    go (Some (name, None)) l f = let o = option_by_name name f in (o.0, long_word word name l ∙ ap (λ (x : Text). 45 ∷ 45 ∷ x) o.1)
+    go (Some (name, None)) l f = let o = option_by_name name f in (o.0, long_word word name l ∙ ap (λ (x : Text). 45 ∷ 45 ∷ x) o.1, o.2)
     go (Some (name, Some value)) l f =
         let o = option_by_name name f in
-        absurd (no_value t o.0 value word rows (l ∙ ap (λ (x : Text). Some (x, Some value)) o.1) d e)
+        absurd (no_value t o.0 o.2 value word rows (l ∙ ap (λ (x : Text). Some (x, Some value)) o.1) d e)
 
 abbrev Later : Asked → List Text → Type 0
 Later t words = (n : Switch → ℕ) (rows : List Row) → Counted rows n → list_any is_reading words ≡ false → NoFault true t rows words → Given n words
 
-one_option : (t : Asked) (n : Switch → ℕ) (rows : List Row) (o : Switch) (words : List Text) → Later t words → Counted rows n → list_any is_reading words ≡ false → NoFault true t rows (switch_word o ∷ words) → Given n (switch_word o ∷ words)
-one_option t n rows o words later c r e =
+one_option : (t : Asked) (n : Switch → ℕ) (rows : List Row) (o : Switch) → is_common o ≡ true → (words : List Text) → Later t words → Counted rows n → list_any is_reading words ≡ false → NoFault true t rows (switch_word o ∷ words) → Given n (switch_word o ∷ words)
+one_option t n rows o common words later c r e =
     let turn = turn_none (plain_leaf true t) [] (between rows None) (switch_word o) words e in
-    let zero = not_given rows n o c (turn_at t o rows turn.0) in
-    let rest = later (one_more o n) (use_switch o rows) (counted_more o rows n c zero) r (subst (λ (w : Walk). walk_fault (plain_leaf true t) [] w words ≡ []) ((plain_takes t).walks o idle rows None) turn.1) in
+    let zero = not_given rows n o c (turn_at t o common rows turn.0) in
+    let rest = later (one_more o n) (use_switch o rows) (counted_more o rows n c zero) r (subst (λ (w : Walk). walk_fault (plain_leaf true t) [] w words ≡ []) ((plain_takes t).walks o common idle rows None) turn.1) in
     record {
       options = o ∷ rest.options;
+      all = rw common rest.all;
       mark = rest.mark;
       are = ap (λ (l : List Text). switch_word o ∷ l) rest.are;
       end = rest.end;
@@ -219,18 +225,18 @@ one_option t n rows o words later c r e =
     }
 
 pub given : (t : Asked) (words : List Text) → Later t words
-given t [] n rows c r e = record { options = []; mark = []; are = refl; end = inl refl; new = none_more n rows c }
+given t [] n rows c r e = record { options = []; all = refl; mark = []; are = refl; end = inl refl; new = none_more n rows c }
 given t (word ∷ words) n rows c r e = at (bytes_eq word dashes) (names_one (map switch_flag switches) (long_of word)) refl refl (given t words)
   where
     reading : (is_reading word ≡ false) × (list_any is_reading words ≡ false)
     reading = both_false (is_reading word) (list_any is_reading words) r
 
     at : (b k : Bool) → bytes_eq word dashes ≡ b → names_one (map switch_flag switches) (long_of word) ≡ k → Later t words → Given n (word ∷ words)
-    at true k d f later = record { options = []; mark = word ∷ words; are = refl; end = inr (mark_last true t rows word words d e); new = none_more n rows c }
+    at true k d f later = record { options = []; all = refl; mark = word ∷ words; are = refl; end = inr (mark_last true t rows word words d e); new = none_more n rows c }
     at false false d f later = absurd (other_fails true t rows word words d (long_is_option (long_of word) (both_false _ _ reading.0).0 ∙ f) reading.0 e)
     at false true d f later =
         let o = option_at t rows word d f (turn_none (plain_leaf true t) [] (between rows None) word words e).0 in
-        subst (λ (x : Text). Given n (x ∷ words)) (sym o.1) (one_option t n rows o.0 words later c reading.1 (subst (λ (x : Text). NoFault true t rows (x ∷ words)) o.1 e))
+        subst (λ (x : Text). Given n (x ∷ words)) (sym o.1) (one_option t n rows o.0 o.2 words later c reading.1 (subst (λ (x : Text). NoFault true t rows (x ∷ words)) o.1 e))
 
 -- ---- what such words give
 
@@ -239,10 +245,10 @@ pub none_yet : Counted [] (λ o. 0)
 none_yet = record { at = λ o. refl; once = λ o. omega arith }
 
 -- the rows at the end of options and the mark
-pub plain_rows : (t : Asked) (os : List Switch) (mark : List Text) → IsEnd mark → AtMostOnce (λ o. 0) os
+pub plain_rows : (t : Asked) (os : List Switch) → AreAll is_common os → (mark : List Text) → IsEnd mark → AtMostOnce (λ o. 0) os
     → Ends (plain_leaf true t) (use_all os) (words_of os ++ mark)
-plain_rows t os mark end new =
-    let l = options_lead (plain_leaf true t) (plain_takes t) os (λ o. 0) [] None refl none_yet new in
+plain_rows t os all mark end new =
+    let l = options_lead (plain_leaf true t) is_common (plain_takes t) os all (λ o. 0) [] None refl none_yet new in
     elim end [
       | inl e ↦ subst (λ (m : List Text). Ends (plain_leaf true t) (use_all os) (words_of os ++ m)) (sym e)
           (subst (λ (w : List Text). Ends (plain_leaf true t) (use_all os) w) (sym (append-nil (words_of os))) (ends (plain_leaf true t) (use_all os) (words_of os) l))
@@ -259,11 +265,11 @@ pub plain_defaults : (t : Asked) (o : Switch) (rows : List Row) → is_set (swit
 plain_defaults t o rows = options_leave (is_set (switch_name o)) (default_set o) switches (with_default rows read_flag) ∙ ap (is_set (switch_name o)) (no_default read_flag rows refl)
 
 -- each option is set where its word stands
-pub plain_set : (t : Asked) (os : List Switch) (mark : List Text) → IsEnd mark → AtMostOnce (λ o. 0) os → (o : Switch)
+pub plain_set : (t : Asked) (os : List Switch) → AreAll is_common os → (mark : List Text) → IsEnd mark → AtMostOnce (λ o. 0) os → (o : Switch)
     → times_of o os ≡ (if is_set (switch_name o) (rows_after (plain_leaf true t).rules [] (words_of os ++ mark)) then 1 else 0)
-plain_set t os mark end new o =
+plain_set t os all mark end new o =
     let counted = counted_all os [] (λ o. 0) none_yet new in
     let set : is_set (switch_name o) (rows_after (plain_leaf true t).rules [] (words_of os ++ mark)) ≡ is_set (switch_name o) (use_all os []) =
-    ap (is_set (switch_name o)) (rows_end (plain_leaf true t) (use_all os) (words_of os ++ mark) (plain_rows t os mark end new)) ∙ plain_defaults t o (use_all os []) in
+    ap (is_set (switch_name o)) (rows_end (plain_leaf true t) (use_all os) (words_of os ++ mark) (plain_rows t os all mark end new)) ∙ plain_defaults t o (use_all os []) in
     let tally = set_where_given (use_all os []) (with_times (λ o. 0) os) o counted in
     omega (arith, (sym (ap once_if set)), tally)

@@ -17,7 +17,7 @@ use Rattle.clap.specs.Walk.{Waiting, Walk, finished, has_row, idle, nothing_held
 use Rattle.block_core.specs.declared.block.Block.{Block}
 use Rattle.words_core.specs.declared.option_words.Options.{Options}
 use Rattle.words_core.specs.CommandLine.{AsksReplay, Meaning, block_rule, is_flag, replay, replay_of, replay_shape, task_asked}
-use Rattle.words_core.specs.RequestLine.{Switch, capture, is_on, is_option, is_set, offered, request_asked, switch_name, switch_word, switches, times}
+use Rattle.words_core.specs.RequestLine.{Switch, capture, changes, is_on, is_option, is_replay_option, is_set, offered, replay_switches, request_asked, simulation, switch_name, switch_word, switches, times}
 use Rattle.words_core.proofs.KeptRows.{leaf, no_default}
 use Rattle.words_core.proofs.AskingWords.{line, stops}
 use Rattle.words_core.proofs.NamedWords.{IsTaken, at_most, taken_behind, wished}
@@ -26,7 +26,7 @@ use Rattle.words_core.proofs.LoneFlags.{help_flag}
 use Rattle.words_core.proofs.OptionRows.{Counted, counted_more, counted_past, default_other, default_set, more_given, more_other, more_own, none_given, once_if, one_if, one_more, read_flag, recounted, row_at, set_other, set_where_given, switch_flag, times_first, times_own, use_switch}
 use Rattle.words_core.proofs.OptionWalks.{Pending, TakesOptions, between, both_true, settled_to, settles, state}
 use Rattle.words_core.proofs.PlainWords.{none_yet, options_leave}
-use Rattle.words_core.proofs.Switches.{an_option, both_false, fails_at, holds_of}
+use Rattle.words_core.proofs.Switches.{a_replay_option, both_false, fails_at, holds_of, is_any, is_common}
 
 -- the subcommand `replay` as it is built
 abbrev pub replays : Shape
@@ -35,27 +35,27 @@ replays = leaf (offered true replay_shape)
 abbrev pub block_argument : Rule
 block_argument = with_index 1 (filled block_rule)
 
-replay_takes : TakesOptions replays
+replay_takes : TakesOptions replays is_any
 unfolding walked
 replay_takes = record { walks = walks; passes = passes }
   where
-    walks : (o : Switch) (waiting : Waiting) (rows : List Row) (pending : Pending)
+    walks : (o : Switch) → is_any o ≡ true → (waiting : Waiting) (rows : List Row) (pending : Pending)
         → walked replays.rules [] (state waiting rows pending) (switch_word o) ≡ between (use_switch o (settled_to replays rows pending)) None
-    walks capture idle rows pending = refl
-    walks capture (option id) rows pending = refl
-    walks capture positional rows pending = refl
-    walks _ idle rows pending = refl
-    walks _ (option id) rows pending = refl
-    walks _ positional rows pending = refl
+    walks capture g idle rows pending = refl
+    walks capture g (option id) rows pending = refl
+    walks capture g positional rows pending = refl
+    walks _ g idle rows pending = refl
+    walks _ g (option id) rows pending = refl
+    walks _ g positional rows pending = refl
 
-    passes : (o : Switch) (waiting : Waiting) (rows : List Row) (pending : Pending) → settles replays rows pending ≡ true → has_row (switch_name o) (settled_to replays rows pending) ≡ false
+    passes : (o : Switch) → is_any o ≡ true → (waiting : Waiting) (rows : List Row) (pending : Pending) → settles replays rows pending ≡ true → has_row (switch_name o) (settled_to replays rows pending) ≡ false
         → turn_passes replays [] (state waiting rows pending) (switch_word o) ≡ true
-    passes capture idle rows pending s u = rw (s, u) refl
-    passes capture (option id) rows pending s u = rw (s, u) refl
-    passes capture positional rows pending s u = rw (s, u) refl
-    passes _ idle rows pending s u = rw (s, u) refl
-    passes _ (option id) rows pending s u = rw (s, u) refl
-    passes _ positional rows pending s u = rw (s, u) refl
+    passes capture g idle rows pending s u = rw (s, u) refl
+    passes capture g (option id) rows pending s u = rw (s, u) refl
+    passes capture g positional rows pending s u = rw (s, u) refl
+    passes _ g idle rows pending s u = rw (s, u) refl
+    passes _ g (option id) rows pending s u = rw (s, u) refl
+    passes _ g positional rows pending s u = rw (s, u) refl
 
 -- ---- a state between two words
 
@@ -167,7 +167,7 @@ option_explicit o rows x =
 
 -- the texts among the arguments, and how often an option stands there
 abbrev pub texts_in : List Text → List Text
-texts_in arguments = filter (λ word. not (is_option word)) arguments
+texts_in arguments = filter (λ word. not (is_replay_option word)) arguments
 
 abbrev with_words : (Switch → ℕ) → List Text → Switch → ℕ
 with_words n arguments o = n o + times (switch_word o) arguments
@@ -184,20 +184,18 @@ record Replays (rows : List Row) (texts : Texts) (n : Switch → ℕ) (arguments
   explicit : Explicit (with_waiting to_rows to_texts)
 
 -- an option's word, and one that is none
-pub some_option : (word : Text) → is_option word ≡ true → (o : Switch) × (word ≡ switch_word o)
+pub common_option : (word : Text) → is_option word ≡ true → (o : Switch) × (word ≡ switch_word o) × (is_common o ≡ true)
+common_option word e =
+    let o = holds_of (λ x. bytes_eq word (switch_word x)) is_common switches refl e in
+    (o.0, (bytes_eq-Decides word (switch_word o.0)).0 o.1, o.2)
+
+some_option : (word : Text) → is_replay_option word ≡ true → (o : Switch) × (word ≡ switch_word o)
 some_option word e =
-    let o = holds_of (λ x. bytes_eq word (switch_word x)) switches e in
+    let o = holds_of (λ x. bytes_eq word (switch_word x)) is_any replay_switches refl e in
     (o.0, (bytes_eq-Decides word (switch_word o.0)).0 o.1)
 
-no_option : (word : Text) → is_option word ≡ false → (o : Switch) → bytes_eq word (switch_word o) ≡ false
+no_option : (word : Text) → is_replay_option word ≡ false → (o : Switch) → bytes_eq word (switch_word o) ≡ false
 no_option word e = fails_at (λ o. bytes_eq word (switch_word o)) e
-
-pub no_times : (arguments : List Text) → list_any is_option arguments ≡ false → (o : Switch) → times (switch_word o) arguments ≡ 0
-no_times [] e o = refl
-no_times (word ∷ arguments) e o =
-    let parts = both_false (is_option word) (list_any is_option arguments) e in
-    let other = no_option word parts.0 o in
-    rw other (no_times arguments parts.1 o)
 
 -- what is known before an argument
 record Before (rows : List Row) (texts : Texts) (n : Switch → ℕ) (arguments : List Text) : Type 0 where
@@ -211,11 +209,11 @@ abbrev Later : List Text → Type 0
 Later arguments = (rows : List Row) (texts : Texts) (n : Switch → ℕ) → Before rows texts n arguments → Replays rows texts n arguments
 
 -- a text more
-words_past : (word : Text) (arguments : List Text) (n : Switch → ℕ) (o : Switch) → is_option word ≡ false → with_words n (word ∷ arguments) o ≡ with_words n arguments o
+words_past : (word : Text) (arguments : List Text) (n : Switch → ℕ) (o : Switch) → is_replay_option word ≡ false → with_words n (word ∷ arguments) o ≡ with_words n arguments o
 words_past word arguments n o e = let other = no_option word e o in rw other refl
 
 at_text : (rows : List Row) (texts : Texts) (n : Switch → ℕ) (word : Text) (arguments : List Text) → Later arguments
-    → is_option word ≡ false → Before rows texts n (word ∷ arguments) → Replays rows texts n (word ∷ arguments)
+    → is_replay_option word ≡ false → Before rows texts n (word ∷ arguments) → Replays rows texts n (word ∷ arguments)
 unfolding walk_passes
 at_text rows texts n word arguments later other b =
     let plain = both_false (is_flag word) (list_any is_flag (texts_in arguments)) (rw other at b.plain) in
@@ -242,7 +240,7 @@ at_text rows texts n word arguments later other b =
     regroup : (a b : List Text) (x : Text) (c : List Text) → (a ++ (b ++ x ∷ [])) ++ c ≡ (a ++ b) ++ x ∷ c
     regroup a b x c = ap (λ (l : List Text). l ++ c) (sym (append_assoc a b (x ∷ []))) ∙ append_assoc (a ++ b) (x ∷ []) c
 
-    kept : (x : Text) (c : List Text) → is_option x ≡ false → texts_in (x ∷ c) ≡ x ∷ texts_in c
+    kept : (x : Text) (c : List Text) → is_replay_option x ≡ false → texts_in (x ∷ c) ≡ x ∷ texts_in c
     kept x c e = rw e refl
 
 -- an option more
@@ -259,13 +257,13 @@ at_option : (rows : List Row) (texts : Texts) (n : Switch → ℕ) (o : Switch) 
 unfolding walk_passes
 at_option rows texts n o arguments later b =
     let waiting = with_waiting rows texts in
-    let option = an_option o in
+    let option = a_replay_option o in
     let counted = waiting_counted rows texts n b.counted in
     let own : with_words n (switch_word o ∷ arguments) o ≤ 1 = b.most o in
     let more = times_own o arguments in
     let zero : n o ≡ 0 = omega (arith, own, more) in
     let step : walked replays.rules [] (among rows texts) (switch_word o) ≡ among (use_switch o waiting) none =
-    replay_takes.walks o (waiting_of texts) rows (pending_of texts) ∙ ap (λ (l : List Row). between (use_switch o l) None) (settled_among rows texts) in
+    replay_takes.walks o refl (waiting_of texts) rows (pending_of texts) ∙ ap (λ (l : List Row). between (use_switch o l) None) (settled_among rows texts) in
     let rest = later (use_switch o waiting) none (one_more o n) (record {
       plain = rw option at b.plain;
       fits = let f = b.fits in omega (arith, f);
@@ -279,7 +277,7 @@ at_option rows texts n o arguments later b =
       to_texts = rest.to_texts;
       walks = ap (λ (w : Walk). fold (walked replays.rules []) w arguments) step ∙ rest.walks;
       passes = both_true _ _
-          (replay_takes.passes o (waiting_of texts) rows (pending_of texts) (waiting_passes rows texts (length (switch_word o ∷ arguments)) b.fits)
+          (replay_takes.passes o refl (waiting_of texts) rows (pending_of texts) (waiting_passes rows texts (length (switch_word o ∷ arguments)) b.fits)
           (subst (λ (l : List Row). has_row (switch_name o) l ≡ false) (sym (settled_among rows texts)) (none_given waiting n o counted zero)))
           (subst (λ (w : Walk). walk_passes replays [] w arguments ≡ true) (sym step) rest.passes);
       fits = rest.fits;
@@ -304,9 +302,9 @@ all_arguments [] rows texts n b = record {
   counted = recounted rows n (with_words n []) (λ o. omega arith) b.counted;
   explicit = waiting_explicit rows texts b.explicit;
 }
-all_arguments (word ∷ arguments) rows texts n b = go (is_option word) refl (all_arguments arguments)
+all_arguments (word ∷ arguments) rows texts n b = go (is_replay_option word) refl (all_arguments arguments)
   where
-    go : (k : Bool) → is_option word ≡ k → Later arguments → Replays rows texts n (word ∷ arguments)
+    go : (k : Bool) → is_replay_option word ≡ k → Later arguments → Replays rows texts n (word ∷ arguments)
     go false e later = at_text rows texts n word arguments later e b
     go true e later =
         let o = some_option word e in
@@ -318,8 +316,10 @@ all_arguments (word ∷ arguments) rows texts n b = go (is_option word) refl (al
 replay_leaves : {X : Type 0} (of : List Row → X) → ((o : Switch) (rows : List Row) → of (with_default rows (switch_flag o)) ≡ of rows)
     → (rows : List Row) → of (fold with_default rows replays.rules) ≡ of rows
 replay_leaves of past rows =
-    ap (λ (l : List Row). of (fold with_default l (map switch_flag switches ++ help_flag ∷ []))) (no_default read_flag (with_default rows block_argument) refl ∙ no_default block_argument rows refl)
-    ∙ options_leave of past switches rows
+    let own = with_default (with_default rows (switch_flag changes)) (switch_flag simulation) in
+    ap (λ (l : List Row). of (fold with_default l (switch_flag changes ∷ switch_flag simulation ∷ read_flag ∷ map switch_flag switches ++ help_flag ∷ []))) (no_default block_argument rows refl)
+    ∙ ap (λ (l : List Row). of (fold with_default l (map switch_flag switches ++ help_flag ∷ []))) (no_default read_flag own refl)
+    ∙ options_leave of past switches own ∙ past simulation (with_default rows (switch_flag changes)) ∙ past changes rows
 
 pub block_default : (rows : List Row) → row_at (codes "BLOCK") (fold with_default rows replays.rules) ≡ row_at (codes "BLOCK") rows
 block_default = replay_leaves (row_at (codes "BLOCK")) (λ o. default_other o (codes "BLOCK") (apart o))

@@ -1,13 +1,15 @@
 -- Command lines, with the period of a watch at both ends, computed: a wrong definition does not check.
-use Rattle.std.proofs.Common.{◌≡◌, Bool, true, false, List, [], ◌∷◌, Option, Some, None, Ok, Err, refl}
-use Rattle.std.specs.Prelude.{codes}
-use Rattle.clap.specs.Words.{Text, takes}
+use Rattle.std.proofs.Common.{◌≡◌, ℕ, Bool, true, false, List, [], ◌∷◌, Option, Some, None, Ok, Err, refl}
+use Rattle.std.specs.Prelude.{codes, option_and_then}
+use Rattle.clap.specs.Words.{Text, subcommand_of, takes}
 use Rattle.clap.specs.declared.error.kind.ErrorKind.TheVariants as kind
 use Rattle.clap.proofs.OnLiterals.{clap_on_literals}
+use Rattle.loss_core.specs.Periods.{Period}
 use Rattle.words_core.specs.declared.option_words.Writing.{Writing}
 use Rattle.words_core.specs.declared.option_words.Writing.TheVariants.{Lines, Dated, Objects}
-use Rattle.words_core.specs.RequestLine.{Wish, file_of_words, request_faults, request_line, request_of_words, task_of_words}
-use Rattle.words_core.specs.CommandLine.{Asked, block_at, check, import, list_blocks, losses, publish, replay_of, rewrite, show, watch}
+use Rattle.words_core.specs.declared.option_words.Options.{Options}
+use Rattle.words_core.specs.RequestLine.{Wish, file_of_words, options_in, request_faults, request_line, request_of_words, task_of_words}
+use Rattle.words_core.specs.CommandLine.{Asked, block_at, check, import, list_blocks, losses, no_block, no_period, publish, replay_of, rewrite, show, watch}
 
 -- each command without arguments asks for its task
 pub record AreNames : Type 0 where
@@ -58,7 +60,15 @@ watches = record { two = refl; most = refl; joined = refl }
 
 -- a request with these options
 abbrev wishes : Asked → Bool → Bool → Writing → Option Wish
-wishes t is_capture skips_other writes = Some (Ok (t, record { is_capture = is_capture; skips_other = skips_other; unwraps = false; is_raw = false; writes = writes }))
+wishes t is_capture skips_other writes = Some (Ok (t, record { is_capture = is_capture; skips_other = skips_other; unwraps = false; is_raw = false; writes = writes; changes_alone = false; simulates = false }))
+
+-- the options of words, whatever their task
+abbrev options_of : List Text → Option Options
+options_of words = option_and_then (λ met. options_in met.1) (subcommand_of request_line words)
+
+-- a replay's own options
+abbrev replays : Bool → Bool → Option Options
+replays changes_alone simulates = Some (record { is_capture = false; skips_other = false; unwraps = false; is_raw = false; writes = Lines; changes_alone = changes_alone; simulates = simulates })
 
 -- the options are those that stand behind the name, in any order, before the mark, once, of a command that takes them, and
 -- none that another excludes
@@ -67,17 +77,22 @@ pub record AreRequests : Type 0 where
   pub one : request_of_words (codes "goose" ∷ codes "show" ∷ codes "--capture" ∷ []) ≡ wishes show true false Lines
   pub both : request_of_words (codes "goose" ∷ codes "check" ∷ codes "--skip-other" ∷ codes "--capture" ∷ codes "--" ∷ []) ≡ wishes check true true Lines
   pub objects : request_of_words (codes "goose" ∷ codes "show" ∷ codes "--json" ∷ []) ≡ wishes show false false Objects
-  pub unwraps : request_of_words (codes "goose" ∷ codes "show" ∷ codes "--unwrap" ∷ codes "--skip-other" ∷ []) ≡ Some (Ok (show, record { is_capture = false; skips_other = true; unwraps = true; is_raw = false; writes = Lines }))
+  pub unwraps : request_of_words (codes "goose" ∷ codes "show" ∷ codes "--unwrap" ∷ codes "--skip-other" ∷ []) ≡ Some (Ok (show, record { is_capture = false; skips_other = true; unwraps = true; is_raw = false; writes = Lines; changes_alone = false; simulates = false }))
   pub dated : request_of_words (codes "goose" ∷ codes "blocks" ∷ codes "--time" ∷ codes "--capture" ∷ []) ≡ wishes list_blocks true false Dated
   pub between : request_of_words (codes "goose" ∷ codes "watch" ∷ codes "--id=A" ∷ codes "--capture" ∷ codes "--period" ∷ codes "2" ∷ []) ≡ wishes (watch 2 (codes "A")) true false Lines
   pub twice : takes request_line (codes "goose" ∷ codes "show" ∷ codes "--capture" ∷ codes "--capture" ∷ []) ≡ false
   pub with_value : takes request_line (codes "goose" ∷ codes "show" ∷ codes "--capture=1" ∷ []) ≡ false
   pub behind_mark : takes request_line (codes "goose" ∷ codes "show" ∷ codes "--" ∷ codes "--capture" ∷ []) ≡ false
-  pub as_text : request_of_words (codes "goose" ∷ codes "replay" ∷ codes "--" ∷ codes "--capture" ∷ []) ≡ Some (Err 0)
+  pub as_text : request_of_words (codes "goose" ∷ codes "replay" ∷ codes "--" ∷ codes "--capture" ∷ []) ≡ Some (Err (no_block 0))
   pub before_value : takes request_line (codes "goose" ∷ codes "watch" ∷ codes "--period" ∷ codes "2" ∷ codes "--id" ∷ codes "--capture" ∷ []) ≡ false
   pub of_another : takes request_line (codes "goose" ∷ codes "rewrite" ∷ codes "--capture" ∷ []) ≡ false
   pub both_forms : request_of_words (codes "goose" ∷ codes "show" ∷ codes "--json" ∷ codes "--time" ∷ []) ≡ None
   pub conflict : request_faults (codes "goose" ∷ codes "show" ∷ codes "--json" ∷ codes "--time" ∷ []) ≡ kind.ArgumentConflict ∷ []
+  pub changes : options_of (codes "goose" ∷ codes "replay" ∷ codes "--changes" ∷ codes "0001,G,D,,1,1" ∷ codes "--simulation" ∷ []) ≡ replays true true
+  pub simulation : options_of (codes "goose" ∷ codes "replay" ∷ codes "0001,G,D,,1,1" ∷ codes "--simulation" ∷ []) ≡ replays false true
+  pub changes_twice : takes request_line (codes "goose" ∷ codes "replay" ∷ codes "--changes" ∷ codes "0001,G,D,,1,1" ∷ codes "--changes" ∷ []) ≡ false
+  pub changes_of_another : takes request_line (codes "goose" ∷ codes "show" ∷ codes "--changes" ∷ []) ≡ false
+  pub simulation_of_another : takes request_line (codes "goose" ∷ codes "losses" ∷ codes "--simulation" ∷ []) ≡ false
   pub no_dates : takes request_line (codes "goose" ∷ codes "publish" ∷ codes "--time" ∷ []) ≡ false
 
 pub requests : AreRequests
@@ -98,6 +113,11 @@ requests = record {
   of_another = refl;
   both_forms = refl;
   conflict = refl;
+  changes = refl;
+  simulation = refl;
+  changes_twice = refl;
+  changes_of_another = refl;
+  simulation_of_another = refl;
   no_dates = refl;
 }
 
@@ -143,26 +163,38 @@ files = record {
   behind_mark = refl;
 }
 
--- what is missing is asked for with a period in range, or with none, with the other options or without
+-- a period of all streams, and one of those with an svID
+abbrev for_all : ℕ → Period
+for_all n = record { id = None; number = n }
+
+abbrev for_id : List ℕ → ℕ → Period
+for_id id n = record { id = Some id; number = n }
+
+-- what is missing is asked for with periods in range, in their order, or with none, with the other options or without; of a period the
+-- last `=` divides, and the first text that says none counts, from 0
 pub record AreLosses : Type 0 where
-  pub none : request_of_words (codes "goose" ∷ codes "losses" ∷ []) ≡ wishes (losses None) false false Lines
-  pub two : request_of_words (codes "goose" ∷ codes "losses" ∷ codes "--capture" ∷ codes "--period" ∷ codes "2" ∷ []) ≡ wishes (losses (Some 2)) true false Lines
-  pub most : request_of_words (codes "goose" ∷ codes "losses" ∷ codes "--period=65536" ∷ codes "--json" ∷ codes "--" ∷ []) ≡ wishes (losses (Some 65536)) false false Objects
-  pub one : takes request_line (codes "goose" ∷ codes "losses" ∷ codes "--period" ∷ codes "1" ∷ []) ≡ false
-  pub more : takes request_line (codes "goose" ∷ codes "losses" ∷ codes "--period=65537" ∷ []) ≡ false
+  pub none : request_of_words (codes "goose" ∷ codes "losses" ∷ []) ≡ wishes (losses []) false false Lines
+  pub two : request_of_words (codes "goose" ∷ codes "losses" ∷ codes "--capture" ∷ codes "--period" ∷ codes "2" ∷ []) ≡ wishes (losses (for_all 2 ∷ [])) true false Lines
+  pub most : request_of_words (codes "goose" ∷ codes "losses" ∷ codes "--period=65536" ∷ codes "--json" ∷ codes "--" ∷ []) ≡ wishes (losses (for_all 65536 ∷ [])) false false Objects
+  pub several : request_of_words (codes "goose" ∷ codes "losses" ∷ codes "--period" ∷ codes "MU01=4000" ∷ codes "--capture" ∷ codes "--period=+9" ∷ codes "--period=A=B=2" ∷ [])
+      ≡ wishes (losses (for_id (codes "MU01") 4000 ∷ for_all 9 ∷ for_id (codes "A=B") 2 ∷ [])) true false Lines
+  pub no_id : request_of_words (codes "goose" ∷ codes "losses" ∷ codes "--period" ∷ codes "=5" ∷ []) ≡ wishes (losses (for_id [] 5 ∷ [])) false false Lines
+  pub one : request_of_words (codes "goose" ∷ codes "losses" ∷ codes "--period" ∷ codes "1" ∷ []) ≡ Some (Err (no_period 0))
+  pub more : request_of_words (codes "goose" ∷ codes "losses" ∷ codes "--period=2" ∷ codes "--period=A=65537" ∷ []) ≡ Some (Err (no_period 1))
+  pub no_number : request_of_words (codes "goose" ∷ codes "losses" ∷ codes "--period=MU01=" ∷ []) ≡ Some (Err (no_period 0))
   pub no_block : takes request_line (codes "goose" ∷ codes "losses" ∷ codes "0001,G,D,,1,1" ∷ []) ≡ false
   pub conflict : request_faults (codes "goose" ∷ codes "losses" ∷ codes "--json" ∷ codes "--time" ∷ []) ≡ kind.ArgumentConflict ∷ []
   pub alone : takes request_line (codes "goose" ∷ codes "losses" ∷ []) ≡ true
 
 pub missing : AreLosses
 unfolding clap_on_literals
-missing = record { none = refl; two = refl; most = refl; one = refl; more = refl; no_block = refl; conflict = refl; alone = refl }
+missing = record { none = refl; two = refl; most = refl; several = refl; no_id = refl; one = refl; more = refl; no_number = refl; no_block = refl; conflict = refl; alone = refl }
 
 -- a block has six fields, and the first text that says none counts, from 0
 pub record AreNoBlocks : Type 0 where
   pub five_fields : block_at (codes "0001,G,D,,1") ≡ None
   pub seven_fields : block_at (codes "0001,G,D,,1,2,3") ≡ None
-  pub first_bad_block : replay_of (codes "1" ∷ codes "2" ∷ []) ≡ Err 0
+  pub first_bad_block : replay_of (codes "1" ∷ codes "2" ∷ []) ≡ Err (no_block 0)
 
 pub no_blocks : AreNoBlocks
 no_blocks = record { five_fields = refl; seven_fields = refl; first_bad_block = refl }

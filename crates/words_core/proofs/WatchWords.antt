@@ -1,5 +1,5 @@
 -- Words that ask for a watch are taken, and the watch is theirs.
-use Rattle.std.proofs.Common.{◌≡◌, ◌∙◌, ◌≤◌, ◌==◌, ℕ, Bool, true, false, List, [], ◌∷◌, ◌++◌, map, Option, Some, None, is_some, option_and_then, refl, sym, ap, subst, inl, inr, arith, cond, drop, slice_index}
+use Rattle.std.proofs.Common.{◌≡◌, ◌∙◌, ◌≤◌, ◌==◌, ℕ, Bool, true, false, true≢false, List, [], ◌∷◌, ◌++◌, map, Option, Some, None, is_some, option_and_then, refl, sym, ap, subst, inl, inr, arith, cond, drop, slice_index}
 use Rattle.std.specs.Prelude.{Ok, codes, fold, if◌then◌else◌, pos}
 use Rattle.std.specs.List.{list_all}
 use Rattle.std.specs.Str.{bytes_eq}
@@ -20,14 +20,16 @@ use Rattle.clap.proofs.ValueTestLemmas.{Accepts-accepts}
 use Rattle.block_core.specs.Period.{IsPeriod}
 use Rattle.words_core.specs.declared.option_words.Options.{Options}
 use Rattle.words_core.specs.CommandLine.{AsksWatch, SayBoth, SaysOption, is_flag, number_said, task_asked, watch, watch_asked}
-use Rattle.words_core.specs.RequestLine.{Switch, capture, is_on, is_set, request_asked, switch_name, switch_word, switches}
+use Rattle.words_core.specs.RequestLine.{Switch, capture, changes, is_on, is_set, request_asked, simulation, switch_name, switch_word, switches}
 use Rattle.words_core.proofs.AskingWords.{line, stops}
+use Rattle.words_core.proofs.Digits.{no_minus, no_plus}
 use Rattle.words_core.proofs.KeptRows.{no_defaults}
 use Rattle.words_core.proofs.LoneFlags.{help_flag}
 use Rattle.words_core.proofs.NamedWords.{IsTaken, at_most, taken_behind, wished}
 use Rattle.words_core.proofs.OptionRows.{AtMostOnce, Counted, all_past, counted_all, counted_past, default_other, default_set, has_at, once_if, read_flag, row_at, set_other, set_own, set_where_given, switch_flag, use_all, use_switch, with_times, words_of}
 use Rattle.words_core.proofs.OptionWalks.{Ends, Leads, Pending, TakesOptions, between, chain, ends, level_ends, options_lead, rows_end, settled_to, settles, state}
 use Rattle.words_core.proofs.PlainWords.{none_yet, options_leave}
+use Rattle.words_core.proofs.Switches.{AreAll, is_common}
 use Rattle.words_core.proofs.WatchRows.{fits_back, id_option, period_option, watches}
 
 -- ---- one option and its value
@@ -145,33 +147,37 @@ id_argument = record { walks = id_walks; passes = λ v rows p h. rw (h, p) refl;
 abbrev pub row_of_use : Rule → Text → Row
 row_of_use a v = record { id = a.id; values = v ∷ []; count = None; source = Some CommandLine; reading = reading_by a }
 
-watch_takes : TakesOptions watches
+watch_takes : TakesOptions watches is_common
 unfolding walked
 watch_takes = record { walks = walks; passes = passes }
   where
-    walks : (o : Switch) (waiting : Waiting) (rows : List Row) (pending : Pending)
+    walks : (o : Switch) → is_common o ≡ true → (waiting : Waiting) (rows : List Row) (pending : Pending)
         → walked watches.rules [] (state waiting rows pending) (switch_word o) ≡ between (use_switch o (settled_to watches rows pending)) None
-    walks capture idle rows pending = refl
-    walks capture (option id) rows pending = refl
-    walks capture positional rows pending = refl
-    walks _ idle rows pending = refl
-    walks _ (option id) rows pending = refl
-    walks _ positional rows pending = refl
+    walks changes g waiting rows pending = absurd (true≢false (sym g))
+    walks simulation g waiting rows pending = absurd (true≢false (sym g))
+    walks capture g idle rows pending = refl
+    walks capture g (option id) rows pending = refl
+    walks capture g positional rows pending = refl
+    walks _ g idle rows pending = refl
+    walks _ g (option id) rows pending = refl
+    walks _ g positional rows pending = refl
 
-    passes : (o : Switch) (waiting : Waiting) (rows : List Row) (pending : Pending) → settles watches rows pending ≡ true → has_row (switch_name o) (settled_to watches rows pending) ≡ false
+    passes : (o : Switch) → is_common o ≡ true → (waiting : Waiting) (rows : List Row) (pending : Pending) → settles watches rows pending ≡ true → has_row (switch_name o) (settled_to watches rows pending) ≡ false
         → turn_passes watches [] (state waiting rows pending) (switch_word o) ≡ true
-    passes capture idle rows pending s u = rw (s, u) refl
-    passes capture (option id) rows pending s u = rw (s, u) refl
-    passes capture positional rows pending s u = rw (s, u) refl
-    passes _ idle rows pending s u = rw (s, u) refl
-    passes _ (option id) rows pending s u = rw (s, u) refl
-    passes _ positional rows pending s u = rw (s, u) refl
+    passes changes g waiting rows pending s u = absurd (true≢false (sym g))
+    passes simulation g waiting rows pending s u = absurd (true≢false (sym g))
+    passes capture g idle rows pending s u = rw (s, u) refl
+    passes capture g (option id) rows pending s u = rw (s, u) refl
+    passes capture g positional rows pending s u = rw (s, u) refl
+    passes _ g idle rows pending s u = rw (s, u) refl
+    passes _ g (option id) rows pending s u = rw (s, u) refl
+    passes _ g positional rows pending s u = rw (s, u) refl
 
 -- options among the two
-watch_options : (os : List Switch) (n : Switch → ℕ) (rows : List Row) (pending : Pending) → settles watches rows pending ≡ true
+watch_options : (os : List Switch) → AreAll is_common os → (n : Switch → ℕ) (rows : List Row) (pending : Pending) → settles watches rows pending ≡ true
     → Counted (settled_to watches rows pending) n → AtMostOnce n os → Leads watches (use_all os) (words_of os) rows pending
 unfolding walk_passes
-watch_options os n rows pending settling c new = options_lead watches watch_takes os n rows pending settling c new
+watch_options os all n rows pending settling c new = options_lead watches is_common watch_takes os all n rows pending settling c new
 
 -- how often an option stands before, between and behind
 abbrev pub in_all : List Switch → List Switch → List Switch → Switch → ℕ
@@ -179,7 +185,7 @@ in_all before middle after = with_times (with_times (with_times (λ o. 0) before
 
 module _ (a b : Rule) (name other : Text) (v u : Text) (x : Argument watches a name) (y : Argument watches b other) (apart : bytes_eq a.id b.id ≡ false) (also : bytes_eq b.id a.id ≡ false)
     (pass : value_passes a v ≡ true) (also_pass : value_passes b u ≡ true) (first second : List Text) (says : SaysOption name v first) (also_says : SaysOption other u second)
-    (before middle after : List Switch)
+    (before middle after : List Switch) (all_before : AreAll is_common before) (all_middle : AreAll is_common middle) (all_after : AreAll is_common after)
     (most : (o : Switch) → in_all before middle after o ≤ 1) where
   -- the rows behind each part
   abbrev pub rows_1 : List Row
@@ -233,7 +239,7 @@ module _ (a b : Rule) (name other : Text) (v u : Text) (x : Argument watches a n
   has_none id rows e = has_at id rows ∙ ap is_some e
 
   lead_1 : Leads watches (use_all before) (words_of before) [] None
-  lead_1 = watch_options before (λ o. 0) [] None refl none_yet (λ o. let m = most o in omega (arith, m))
+  lead_1 = watch_options before all_before (λ o. 0) [] None refl none_yet (λ o. let m = most o in omega (arith, m))
 
   lead_2 : Leads watches (used a (v ∷ [])) first lead_1.to_rows lead_1.to_pending
   lead_2 =
@@ -245,7 +251,7 @@ module _ (a b : Rule) (name other : Text) (v u : Text) (x : Argument watches a n
 
   lead_3 : Leads watches (use_all middle) (words_of middle) lead_2.to_rows lead_2.to_pending
   lead_3 =
-      watch_options middle (with_times (λ o. 0) before) lead_2.to_rows lead_2.to_pending lead_2.settling
+      watch_options middle all_middle (with_times (λ o. 0) before) lead_2.to_rows lead_2.to_pending lead_2.settling
       (subst (λ (rows : List Row). Counted rows (with_times (λ o. 0) before)) (sym settled_2) counted_2) (λ o. let m = most o in omega (arith, m))
 
   settled_3 : settled_to watches lead_3.to_rows lead_3.to_pending ≡ rows_3
@@ -261,7 +267,7 @@ module _ (a b : Rule) (name other : Text) (v u : Text) (x : Argument watches a n
 
   lead_5 : Leads watches (use_all after) (words_of after) lead_4.to_rows lead_4.to_pending
   lead_5 =
-      watch_options after (with_times (with_times (λ o. 0) before) middle) lead_4.to_rows lead_4.to_pending lead_4.settling
+      watch_options after all_after (with_times (with_times (λ o. 0) before) middle) lead_4.to_rows lead_4.to_pending lead_4.settling
       (subst (λ (rows : List Row). Counted rows (with_times (with_times (λ o. 0) before) middle)) (sym settled_4) counted_4) most
 
   pub both_end : Ends watches (λ rows. use_all after (used b (u ∷ []) (use_all middle (used a (v ∷ []) (use_all before rows))))) (words_of before ++ (first ++ (words_of middle ++ (second ++ words_of after))))
@@ -288,21 +294,8 @@ watch_set o = watch_leaves (is_set (switch_name o)) (default_set o)
 -- ---- the period
 
 module _ (digits : Text) (are : IsNumeral 10 digits) where
-  first_digit : IsInRange 48 57 (slice_index digits 0)
-  first_digit = go digits are
-    where
-      go : (ds : Text) → IsNumeral 10 ds → IsInRange 48 57 (slice_index ds 0)
-      go [] n = absurd (omega arith)
-      go (d ∷ ds) n = digit_from_value d n.1.0
-
-  no_minus : (slice_index digits 0 == 45) ≡ false
-  no_minus = ne_eqb _ _ (λ e. omega (arith, first_digit))
-
-  no_plus : without_leading_plus digits ≡ digits
-  no_plus = let plus : (slice_index digits 0 == 43) ≡ false = ne_eqb _ _ (λ e. omega (arith, first_digit)) in ap (λ (b : Bool). drop (cond b 1 0) digits) plus
-
   as_they_stand : without_minus digits ≡ digits
-  as_they_stand = go digits no_minus
+  as_they_stand = go digits (no_minus digits are)
     where
       go : (ds : Text) → (slice_index ds 0 == 45) ≡ false → without_minus ds ≡ ds
       go [] e = refl
@@ -310,10 +303,10 @@ module _ (digits : Text) (are : IsNumeral 10 digits) where
 
   pub digits_pass : (period : ℕ) → digits_value 10 digits ≡ period → IsPeriod period → accepts false (parses.Signed (pos 2) (pos 65536)) digits ≡ true
   digits_pass period e range =
-      Accepts-accepts false (parses.Signed (pos 2) (pos 65536)) digits (rw (no_minus, no_plus) are, rw (no_minus, no_plus) (record { sfits = omega arith }), rw (no_minus, no_plus) (omega (arith, ints)), rw (no_minus, no_plus) (omega (arith, ints)))
+      Accepts-accepts false (parses.Signed (pos 2) (pos 65536)) digits (rw (no_minus digits are, no_plus digits are) are, rw (no_minus digits are, no_plus digits are) (record { sfits = omega arith }), rw (no_minus digits are, no_plus digits are) (omega (arith, ints)), rw (no_minus digits are, no_plus digits are) (omega (arith, ints)))
 
   pub digits_say : (period : ℕ) → digits_value 10 digits ≡ period → IsPeriod period → number_said (without_minus digits) ≡ Some period
-  digits_say period e range = rw (as_they_stand, fits_back digits (rw no_plus are, rw no_plus (omega arith)), no_plus, e) refl
+  digits_say period e range = rw (as_they_stand, fits_back digits (rw (no_plus digits are) are, rw (no_plus digits are) (omega arith)), no_plus digits are, e) refl
 
 -- ---- the words that ask for a watch
 
@@ -346,29 +339,29 @@ asks_by_rows f words digits id period n e p i c say =
 
 watch_asks : (digits id : Text) (period : ℕ) → accepts false (parses.Signed (pos 2) (pos 65536)) digits ≡ true → number_said (without_minus digits) ≡ Some period
     → (first second : List Text) → SayBoth (codes "--period") digits (codes "--id") id first second → (before middle after : List Switch)
-    → ((o : Switch) → in_all before middle after o ≤ 1)
+    → AreAll is_common before → AreAll is_common middle → AreAll is_common after → ((o : Switch) → in_all before middle after o ≤ 1)
     → AsksFor period id (in_all before middle after) (words_of before ++ (first ++ (words_of middle ++ (second ++ words_of after))))
-watch_asks digits id period pass say first second (inl h) before middle after most =
-    let end = both_end period_option id_option (codes "--period") (codes "--id") digits id period_argument id_argument refl refl pass refl first second h.0 h.1 before middle after most in
-    let p = first_row period_option id_option (codes "--period") (codes "--id") digits id period_argument id_argument refl refl pass refl first second h.0 h.1 before middle after most in
-    let i = second_row period_option id_option (codes "--period") (codes "--id") digits id period_argument id_argument refl refl pass refl first second h.0 h.1 before middle after most in
-    let c = counted_5 period_option id_option (codes "--period") (codes "--id") digits id period_argument id_argument refl refl pass refl first second h.0 h.1 before middle after most in
+watch_asks digits id period pass say first second (inl h) before middle after all_before all_middle all_after most =
+    let end = both_end period_option id_option (codes "--period") (codes "--id") digits id period_argument id_argument refl refl pass refl first second h.0 h.1 before middle after all_before all_middle all_after most in
+    let p = first_row period_option id_option (codes "--period") (codes "--id") digits id period_argument id_argument refl refl pass refl first second h.0 h.1 before middle after all_before all_middle all_after most in
+    let i = second_row period_option id_option (codes "--period") (codes "--id") digits id period_argument id_argument refl refl pass refl first second h.0 h.1 before middle after all_before all_middle all_after most in
+    let c = counted_5 period_option id_option (codes "--period") (codes "--id") digits id period_argument id_argument refl refl pass refl first second h.0 h.1 before middle after all_before all_middle all_after most in
     asks_by_rows _ _ digits id period _ end p i c say
-watch_asks digits id period pass say first second (inr h) before middle after most =
-    let end = both_end id_option period_option (codes "--id") (codes "--period") id digits id_argument period_argument refl refl refl pass first second h.0 h.1 before middle after most in
-    let i = first_row id_option period_option (codes "--id") (codes "--period") id digits id_argument period_argument refl refl refl pass first second h.0 h.1 before middle after most in
-    let p = second_row id_option period_option (codes "--id") (codes "--period") id digits id_argument period_argument refl refl refl pass first second h.0 h.1 before middle after most in
-    let c = counted_5 id_option period_option (codes "--id") (codes "--period") id digits id_argument period_argument refl refl refl pass first second h.0 h.1 before middle after most in
+watch_asks digits id period pass say first second (inr h) before middle after all_before all_middle all_after most =
+    let end = both_end id_option period_option (codes "--id") (codes "--period") id digits id_argument period_argument refl refl refl pass first second h.0 h.1 before middle after all_before all_middle all_after most in
+    let i = first_row id_option period_option (codes "--id") (codes "--period") id digits id_argument period_argument refl refl refl pass first second h.0 h.1 before middle after all_before all_middle all_after most in
+    let p = second_row id_option period_option (codes "--id") (codes "--period") id digits id_argument period_argument refl refl refl pass first second h.0 h.1 before middle after all_before all_middle all_after most in
+    let c = counted_5 id_option period_option (codes "--id") (codes "--period") id digits id_argument period_argument refl refl refl pass first second h.0 h.1 before middle after all_before all_middle all_after most in
     asks_by_rows _ _ digits id period _ end p i c say
 
 -- words that ask for a watch are taken, and it is theirs, with the options that stand there
 pub watch_asked_for : (words : List Text) (period : ℕ) (id : Text) (options : Options) (a : AsksWatch words period id) (before middle after : List Switch)
-    → ((o : Switch) → in_all before middle after o ≡ (if is_on options o then 1 else 0))
+    → AreAll is_common before → AreAll is_common middle → AreAll is_common after → ((o : Switch) → in_all before middle after o ≡ (if is_on options o then 1 else 0))
     → IsTaken (a.called ∷ codes "watch" ∷ (words_of before ++ (a.first ++ (words_of middle ++ (a.second ++ words_of after))))) (watch period id) options
-watch_asked_for words period id options a before middle after gives =
+watch_asked_for words period id options a before middle after all_before all_middle all_after gives =
     let pass = digits_pass a.digits a.are_digits period a.number a.range in
     let say = digits_say a.digits a.are_digits period a.number a.range in
-    let asks = watch_asks a.digits id period pass say a.first a.second a.options before middle after (λ o. at_most (is_on options o) (in_all before middle after o) (gives o)) in
+    let asks = watch_asks a.digits id period pass say a.first a.second a.options before middle after all_before all_middle all_after (λ o. at_most (is_on options o) (in_all before middle after o) (gives o)) in
     let rest = words_of before ++ (a.first ++ (words_of middle ++ (a.second ++ words_of after))) in (
       ap (λ (o : Option (Text × List Text)). option_and_then request_asked (entered line o)) (stops (codes "watch") (codes "watch") rest refl)
           ∙ wished options (rows_after watches.rules [] rest) (in_all before middle after) (watch period id) (task_asked (codes "watch", rows_after watches.rules [] rest))

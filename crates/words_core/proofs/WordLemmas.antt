@@ -24,10 +24,10 @@ use Rattle.words_core.specs.declared.words.WordsError.TheVariants as refused
 use Rattle.words_core.proofs.AskingWords.{asked_or}
 use Rattle.words_core.proofs.KeptRows.{first_none, leaf, level_checked, then_none, wanted}
 use Rattle.words_core.proofs.WatchRows.{watch_says}
-use Rattle.words_core.proofs.LossesRows.{losses_say}
-use Rattle.words_core.specs.CommandLine.{AnswersBadBlock, AnswersTask, Asked, HasPeriod, IsBlockError, IsNoMistake, Meaning, asked_by, blocks_in, check, first_bad_block, import, is_plain, list_blocks, losses, losses_shape, plain, publish, replay, replay_of, replay_shape, rewrite, show, task_asked, watch, watch_shape}
+use Rattle.words_core.proofs.LossesRows.{AreInRange, losses_say, texts_in}
+use Rattle.words_core.specs.CommandLine.{AnswersTask, AnswersUnsaid, Asked, HasPeriod, IsNoMistake, IsUnsaid, Meaning, Unsaid, asked_by, blocks_in, check, first_bad_block, import, is_plain, list_blocks, losses, losses_of, losses_shape, no_block, no_period, plain, publish, replay, replay_of, replay_shape, rewrite, show, task_asked, watch, watch_shape}
 use Rattle.std.specs.List.{list_any}
-use Rattle.words_core.specs.RequestLine.{AnswersRequest, AsksWith, MayRefuseRequest, RefusesBlock, Wish, is_reading, offered, options_in, request_asked, request_faults, request_line, request_of_words, task_of_words, with_these}
+use Rattle.words_core.specs.RequestLine.{AnswersRequest, AsksWith, MayRefuseRequest, RefusesUnsaid, Wish, is_reading, offered, options_in, request_asked, request_faults, request_line, request_of_words, task_of_words, with_these}
 use Rattle.words_core.specs.computed.PrivateCalls.{MayAnswer}
 use Rattle.words_core.specs.computed.OfferedLine.{IsExclusion, MayGrant}
 
@@ -49,8 +49,8 @@ subcommand_given a words r e =
 abbrev a_meaning : Asked → Option Meaning
 a_meaning t = Some (Ok t)
 
-abbrev no_meaning : ℕ → Option Meaning
-no_meaning i = Some (Err i)
+abbrev no_meaning : Unsaid → Option Meaning
+no_meaning u = Some (Err u)
 
 abbrev a_wish : Asked → Options → Option Wish
 a_wish t options = Some (Ok (t, options))
@@ -59,19 +59,19 @@ abbrev task_or : Asked → Option Wish → Asked
 task_or d (Some (Ok wish)) = wish.0
 task_or d _ = d
 
-abbrev place_or : ℕ → Option Wish → ℕ
-place_or d (Some (Err i)) = i
-place_or d _ = d
+abbrev unsaid_in : Unsaid → Option Wish → Unsaid
+unsaid_in d (Some (Err u)) = u
+unsaid_in d _ = d
 
-abbrev block_or : ℕ → Option Meaning → ℕ
-block_or d (Some (Err i)) = i
-block_or d _ = d
+abbrev unsaid_or : Unsaid → Option Meaning → Unsaid
+unsaid_or d (Some (Err u)) = u
+unsaid_or d _ = d
 
 abbrev options_or : Options → Option Wish → Options
 options_or d (Some (Ok wish)) = wish.1
 options_or d _ = d
 
--- something is asked for; where that is a watch, its period is one that a watch may have
+-- something is asked for, with periods in range
 abbrev pub IsAsked : Option Meaning → Type 0
 IsAsked None = ⊥
 IsAsked (Some (Ok t)) = HasPeriod t
@@ -127,7 +127,7 @@ replay_asked : (o : Option (List Text)) → is_some o ≡ true → IsAsked (opti
 replay_asked None e = absurd (true≢false (sym e))
 replay_asked (Some texts) e = go (first_bad_block texts)
   where
-    go : (o : Option ℕ) → IsAsked (Some (option_map_or Err o (Ok (replay (blocks_in texts)))))
+    go : (o : Option ℕ) → IsAsked (Some (option_map_or (λ i. Err (no_block i)) o (Ok (replay (blocks_in texts)))))
     go None = tt
     go (Some i) = tt
 
@@ -140,7 +140,7 @@ plain_gives takes publish e words f = tt
 plain_gives takes import e words f = tt
 plain_gives takes (replay blocks) e words f = absurd (true≢false (sym e))
 plain_gives takes (watch period id) e words f = absurd (true≢false (sym e))
-plain_gives takes (losses period) e words f = absurd (true≢false (sym e))
+plain_gives takes (losses periods) e words f = absurd (true≢false (sym e))
 
 replay_gives : AsksForSomething (leaf (offered true replay_shape))
 replay_gives words f =
@@ -150,8 +150,23 @@ replay_gives words f =
 watch_gives : AsksForSomething (leaf (offered true watch_shape))
 watch_gives words f = let says = watch_says words f in rw says.2 says.3
 
+losses_meant : (m : Meaning) → AreInRange m → IsAsked (Some m)
+losses_meant (Ok show) is = absurd is
+losses_meant (Ok check) is = absurd is
+losses_meant (Ok rewrite) is = absurd is
+losses_meant (Ok list_blocks) is = absurd is
+losses_meant (Ok publish) is = absurd is
+losses_meant (Ok import) is = absurd is
+losses_meant (Ok (replay blocks)) is = absurd is
+losses_meant (Ok (watch period id)) is = absurd is
+losses_meant (Ok (losses periods)) is = is
+losses_meant (Err u) is = tt
+
+losses_asks : (texts : List Text) → IsAsked (Some (losses_of texts))
+losses_asks texts = losses_meant (losses_of texts) (losses_say texts)
+
 losses_gives : AsksForSomething (leaf (offered true losses_shape))
-losses_gives words f = losses_say words f
+losses_gives words f = losses_asks (texts_in (rows_after (leaf (offered true losses_shape)).rules [] words))
 
 all_give : EachAsks (built request_line).subs
 all_give = (
@@ -243,9 +258,10 @@ answers_refused words answer none may = go (request_of_words words) refl answer 
     go (Some (Ok t)) e (Ok r) m = tt
     go (Some (Ok t)) e (Err u) m = subst (λ (w : WordsError). MayRefuseRequest words w × IsNoMistake w) (sym m) (tt, tt)
     go (Some (Err i)) e (Ok r) m = absurd m
-    go (Some (Err i)) e (Err (refused.Words error)) m = absurd m
-    go (Some (Err i)) e (Err (refused.Block j)) m = ((wish_no_mistake words (Err i) none e, e ∙ ap (λ (k : ℕ). Some (Err k)) (sym m)), tt)
-    go (Some (Err i)) e (Err refused.Memory) m = (tt, tt)
+    go (Some (Err u)) e (Err (refused.Words error)) m = absurd m
+    go (Some (Err u)) e (Err (refused.Block i)) m = ((wish_no_mistake words (Err u) none e, e ∙ ap (λ (k : Unsaid). Some (Err k)) (sym m)), tt)
+    go (Some (Err u)) e (Err (refused.Period i)) m = ((wish_no_mistake words (Err u) none e, e ∙ ap (λ (k : Unsaid). Some (Err k)) (sym m)), tt)
+    go (Some (Err u)) e (Err refused.Memory) m = (tt, tt)
 
 -- where nothing is answered, nothing is wished for
 pub no_wish : (w : Option Wish) → MayGrant w None → w ≡ None
@@ -256,6 +272,7 @@ no_wish (Some wish) may = absurd may
 pub excluded : (words : List Text) (e : WordsError) → fault_of request_line words ≡ [] → request_of_words words ≡ None → IsExclusion e → MayRefuseRequest words e
 excluded words (refused.Words error) none nothing is = rw (none, nothing) (inl is)
 excluded words (refused.Block i) none nothing is = absurd is
+excluded words (refused.Period i) none nothing is = absurd is
 excluded words refused.Memory none nothing is = tt
 
 -- and there are none such where they agree
@@ -281,13 +298,13 @@ task_wished words t options e = go (subcommand_of request_line words) e
     go None f = cc
     go (Some met) f = by (task_asked met) (options_in met.1) f
 
-pub block_wished : (words : List Text) (i : ℕ) → request_of_words words ≡ Some (Err i) → task_of_words words ≡ Some (Err i)
-block_wished words i e = go (subcommand_of request_line words) e
+pub unsaid_wished : (words : List Text) (i : Unsaid) → request_of_words words ≡ Some (Err i) → task_of_words words ≡ Some (Err i)
+unsaid_wished words i e = go (subcommand_of request_line words) e
   where
     wished : (m : Option Meaning) (o : Options) → option_map (with_these o) m ≡ Some (Err i) → m ≡ Some (Err i)
     wished None o f = cc
     wished (Some (Ok u)) o f = cc
-    wished (Some (Err j)) o f = ap (λ (w : Option Wish). Some (Err (place_or j w))) f
+    wished (Some (Err j)) o f = ap (λ (w : Option Wish). Some (Err (unsaid_in j w))) f
 
     by : (m : Option Meaning) (x : Option Options) → option_and_then (λ o. option_map (with_these o) m) x ≡ Some (Err i) → m ≡ Some (Err i)
     by m None f = cc
@@ -303,21 +320,21 @@ asked_period words t none e = subst IsAsked e (faultless_asks words none)
 -- words that are taken are refused for want of memory alone, where what they ask for is a task
 pub memory_alone : (words : List Text) (t : Asked) (e : WordsError) → task_of_words words ≡ Some (Ok t) → MayRefuseRequest words e → IsNoMistake e → e ≡ refused.Memory
 memory_alone words t (refused.Words error) asks may sure = absurd sure
-memory_alone words t (refused.Block i) asks may sure = let bad : Some (Ok t) ≡ Some (Err i) = sym asks ∙ block_wished words i may.1 in cc
+memory_alone words t (refused.Block i) asks may sure = let bad : Some (Ok t) ≡ Some (Err (no_block i)) = sym asks ∙ unsaid_wished words (no_block i) may.1 in cc
+memory_alone words t (refused.Period i) asks may sure = let bad : Some (Ok t) ≡ Some (Err (no_period i)) = sym asks ∙ unsaid_wished words (no_period i) may.1 in cc
 memory_alone words t refused.Memory asks may sure = refl
 
--- words without a fault, of which a text says no block, are refused by that text
-pub block_alone : (words : List Text) (i : ℕ) (e : WordsError) → request_faults words ≡ [] → task_of_words words ≡ Some (Err i) → MayRefuseRequest words e → IsBlockError i e
-block_alone words i (refused.Words error) none bad may = subst (λ (k : Kinds). IsAmong (kind_of error) k) none may
-block_alone words i (refused.Block j) none bad may =
-    let same : no_meaning j ≡ Some (Err i) = sym (block_wished words j may.1) ∙ bad in ap (λ (m : Option Meaning). block_or j m) same
-block_alone words i refused.Memory none bad may = tt
+-- words without a fault, of which a text says nothing, are refused by that text
+pub unsaid_alone : (words : List Text) (u : Unsaid) (e : WordsError) → request_faults words ≡ [] → task_of_words words ≡ Some (Err u) → MayRefuseRequest words e → IsUnsaid u e
+unsaid_alone words u (refused.Words error) none bad may = subst (λ (k : Kinds). IsAmong (kind_of error) k) none may
+unsaid_alone words u (refused.Block i) none bad may =
+    let same : no_meaning (no_block i) ≡ Some (Err u) = sym (unsaid_wished words (no_block i) may.1) ∙ bad in ap (λ (m : Option Meaning). unsaid_or (no_block i) m) same
+unsaid_alone words u (refused.Period i) none bad may =
+    let same : no_meaning (no_period i) ≡ Some (Err u) = sym (unsaid_wished words (no_period i) may.1) ∙ bad in ap (λ (m : Option Meaning). unsaid_or (no_period i) m) same
+unsaid_alone words u refused.Memory none bad may = tt
 
 pub one_task : (t u : Asked) → a_meaning t ≡ Some (Ok u) → t ≡ u
 one_task t u e = ap (λ (m : Option Meaning). asked_or t m) e
-
-pub one_block : (t : Asked) (i : ℕ) → a_meaning t ≡ Some (Err i) → ⊥
-one_block t i e = cc
 
 -- what `read_request` says of its answers
 pub answered_plainly : (words : List Text) (answer : Answer) → IfOk answer (λ r. request_faults words ≡ []) → IfOk answer (Granted words)
@@ -338,10 +355,10 @@ pub request_granted : (words : List Text) (t : Asked) (options : Options) (answe
 request_granted words t options (Ok r) granted may sure wish = one_wish (asked_by r.task) t r.options options (sym granted ∙ wish)
 request_granted words t options (Err e) granted may sure wish = memory_alone words t e (task_wished words t options wish) may sure
 
-pub block_refused : (words : List Text) (i : ℕ) (answer : Answer) → IfOk answer (Granted words) → IfErr answer (MayRefuseRequest words) → request_faults words ≡ []
-    → request_of_words words ≡ Some (Err i) → RefusesBlock i answer
-block_refused words i (Ok r) granted may none bad = let other : Some (Ok (asked_by r.task, r.options)) ≡ Some (Err i) = sym granted ∙ bad in cc
-block_refused words i (Err e) granted may none bad = block_alone words i e none (block_wished words i bad) may
+pub unsaid_refused : (words : List Text) (u : Unsaid) (answer : Answer) → IfOk answer (Granted words) → IfErr answer (MayRefuseRequest words) → request_faults words ≡ []
+    → request_of_words words ≡ Some (Err u) → RefusesUnsaid u answer
+unsaid_refused words u (Ok r) granted may none bad = let other : Some (Ok (asked_by r.task, r.options)) ≡ Some (Err u) = sym granted ∙ bad in cc
+unsaid_refused words u (Err e) granted may none bad = unsaid_alone words u e none (unsaid_wished words u bad) may
 
 -- ---- the command line is such that `clap` says what it does
 
@@ -353,7 +370,7 @@ free_line = refl
 
 -- ---- a task becomes a request
 
-pub grants : (m : Option Meaning) (o : Options) (a : Result Task WordsError) (r : Answer) → ((t : Asked) → AnswersTask t a → AnswersRequest t o r) → ((i : ℕ) → AnswersBadBlock i a → RefusesBlock i r)
+pub grants : (m : Option Meaning) (o : Options) (a : Result Task WordsError) (r : Answer) → ((t : Asked) → AnswersTask t a → AnswersRequest t o r) → ((u : Unsaid) → AnswersUnsaid u a → RefusesUnsaid u r)
     → MayAnswer m (Some a) → MayGrant (option_map (with_these o) m) (Some r)
 grants None o a r answered refuses may = absurd may
 grants (Some (Ok t)) o a r answered refuses may = answered t may

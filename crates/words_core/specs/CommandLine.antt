@@ -1,6 +1,6 @@
 -- The command line of the program: the task of each subcommand, and why words may be refused.
 use Rattle.std.specs.Prelude.{◌≡◌, ◌==◌, ◌⊎◌, ℕ, pos, true, false, not, Bool, List, [], ◌∷◌, ◌++◌, map}
-use Rattle.std.specs.Prelude.{filter_map, find, position, Option, Some, None, Result, Ok, Err, MatchResult, is_some, option_and_then, option_map, codes, if◌then◌else◌}
+use Rattle.std.specs.Prelude.{filter_map, find, position, Option, Some, None, Result, Ok, Err, MatchResult, is_some, option_and_then, option_map, unwrap_or, codes, if◌then◌else◌}
 use Rattle.std.specs.Global.{Global}
 use Rattle.std.specs.List.{list_any}
 use Rattle.std.specs.Option.{option_map_or}
@@ -9,9 +9,11 @@ use Rattle.std.specs.Str.Parse.{IsNumeral, digits_value, without_leading_plus}
 use Rattle.clap.specs.Lexer.{usize_max}
 use Rattle.clap.specs.Words.{App, Row, Rule, Shape, Text, all_of, first_of, new_app, new_rule, one_of, with_rule}
 use Rattle.clap.specs.ValueTests.{is_unsigned_in}
+use Rattle.clap.specs.declared.builder.action.ArgAction.TheVariants.{Append, SetTrue}
 use Rattle.clap.specs.declared.builder.value_parser.ValueParser.TheVariants as parses
 use Rattle.block_core.specs.declared.block.Block.{Block}
 use Rattle.block_core.specs.Period.{IsPeriod}
+use Rattle.loss_core.specs.Periods.{ArePeriods, Period}
 use Rattle.words_core.specs.declared.words.Task.{Task}
 use Rattle.words_core.specs.declared.words.Task.TheVariants.{Show, Check, Rewrite, Blocks, Publish, Import, Replay, Watch, Losses}
 use Rattle.words_core.specs.declared.words.WordsError.{WordsError}
@@ -19,7 +21,7 @@ use Rattle.words_core.specs.declared.words.WordsError.TheVariants as refused
 use Rattle.block_core.specs.BlockText.{block_in}
 
 -- what words may ask for; a replay of these control blocks, in this order; a watch over the stream with this
--- svID, whose counter has this period; what is missing, of streams where this period of their counters is given
+-- svID, whose counter has this period; what is missing, where streams have these periods
 pub data Asked : Type 0 where
   show : Asked
   check : Asked
@@ -29,7 +31,7 @@ pub data Asked : Type 0 where
   import : Asked
   replay : List (Block Global) → Asked
   watch : ℕ → Text → Asked
-  losses : Option ℕ → Asked
+  losses : List Period → Asked
 
 -- what is asked for by a task, wherever its blocks and its svID stand in memory
 abbrev pub asked_by : Task → Asked
@@ -41,7 +43,7 @@ asked_by Publish = publish
 asked_by Import = import
 asked_by (Replay blocks) = replay blocks.items
 asked_by (Watch period id) = watch period id.items
-asked_by (Losses period) = losses period
+asked_by (Losses periods) = losses periods.items
 
 -- the name of the subcommand that asks for a task
 abbrev pub name_of : Asked → Text
@@ -53,13 +55,13 @@ name_of publish = codes "publish"
 name_of import = codes "import"
 name_of (replay blocks) = codes "replay"
 name_of (watch period id) = codes "watch"
-name_of (losses period) = codes "losses"
+name_of (losses periods) = codes "losses"
 
 -- the task's subcommand has no words of its own
 abbrev pub is_plain : Asked → Bool
 is_plain (replay blocks) = false
 is_plain (watch period id) = false
-is_plain (losses period) = false
+is_plain (losses periods) = false
 is_plain _ = true
 
 -- the task's subcommand reads events, and takes the options on them
@@ -69,16 +71,21 @@ takes_options publish = false
 takes_options import = false
 takes_options _ = true
 
--- the period of a watch is one that a watch may have, and so is one that is given for losses
+-- the period of a watch is one that a watch may have, and so is each that is given for losses
 abbrev pub HasPeriod : Asked → Type 0
 HasPeriod (watch period id) = IsPeriod period
-HasPeriod (losses (Some period)) = IsPeriod period
+HasPeriod (losses periods) = ArePeriods periods
 HasPeriod _ = Unit {0}
 
--- what the matches of a subcommand ask for: a task, or none because at this position, from 0, of the
--- texts of control blocks the first one stands that says none
+-- what the words of a subcommand leave unsaid: at this position, from 0, of the texts of control blocks, or of those of periods,
+-- the first one stands that says none
+pub data Unsaid : Type 0 where
+  no_block : ℕ → Unsaid
+  no_period : ℕ → Unsaid
+
+-- what the matches of a subcommand ask for: a task, or none because of a text that says nothing
 abbrev pub Meaning : Type 0
-Meaning = Result Asked ℕ
+Meaning = Result Asked Unsaid
 
 -- a subcommand: the words of its own that it takes, whether it takes the options on events beside them, and what its
 -- matches ask for
@@ -105,15 +112,26 @@ blocks_in = filter_map block_at
 
 -- a replay of the control blocks that all these texts say
 abbrev pub replay_of : List Text → Meaning
-replay_of texts = option_map_or Err (first_bad_block texts) (Ok (replay (blocks_in texts)))
+replay_of texts = option_map_or (λ i. Err (no_block i)) (first_bad_block texts) (Ok (replay (blocks_in texts)))
 
 -- the argument BLOCK: one word or more
 abbrev pub block_rule : Rule
 block_rule = record (new_rule (codes "BLOCK")) { required = true; range = Some (record { start_inclusive = 1; end_inclusive = usize_max }) }
 
--- the words of `replay`: its name, and the argument BLOCK
+-- an option without a value, by this name
+abbrev pub option_named : Text → Rule
+option_named name = record (new_rule name) { long = Some name; action = Some SetTrue }
+
+-- the options --changes and --simulation
+abbrev pub changes_rule : Rule
+changes_rule = option_named (codes "changes")
+
+abbrev pub simulation_rule : Rule
+simulation_rule = option_named (codes "simulation")
+
+-- the words of `replay`: its name, the argument BLOCK, and two options of its own
 abbrev pub replay_shape : Shape
-replay_shape = (with_rule (new_app (codes "replay")) block_rule).top
+replay_shape = (with_rule (with_rule (with_rule (new_app (codes "replay")) block_rule) changes_rule) simulation_rule).top
 
 -- the subcommand of a replay
 abbrev pub replaying : Subcommand
@@ -149,17 +167,52 @@ watch_asked rows = option_and_then (λ period. option_map (λ id. Ok (watch peri
 abbrev pub watching : Subcommand
 watching = record { shape = watch_shape; has_options = true; task = watch_asked }
 
--- the option --period of `losses`: as that of a watch, but it may be left out
+-- the number of samples that a text says: decimal digits, perhaps behind a plus, from 2 to 65,536
+abbrev pub period_number : Text → Option ℕ
+period_number text = if is_unsigned_in 2 65536 text then Some (digits_value 10 (without_leading_plus text)) else None
+
+-- a text by its parts: the number behind an svID, for the streams with that; or the number alone, for all
+abbrev pub period_of_parts : Text → Option (Text × Text) → Option Period
+period_of_parts text None = option_map (λ n. record { id = None; number = n }) (period_number text)
+period_of_parts text (Some parts) = option_map (λ n. record { id = Some parts.0; number = n }) (period_number parts.1)
+
+-- a text of this octet and others, by where the last `=` (61) divides the others
+abbrev pub divided_behind : ℕ → Text → Option (Text × Text) → Option (Text × Text)
+divided_behind c others None = if c == 61 then Some ([], others) else None
+divided_behind c others (Some parts) = Some (c ∷ parts.0, parts.1)
+
+-- what stands before the last `=` of a text, and behind it
+abbrev pub divided : Text → Option (Text × Text)
+divided [] = None
+divided (c ∷ others) = divided_behind c others (divided others)
+
+-- the period that a text says: where it has an `=`, the last one divides it into an svID and a number
+abbrev pub period_at : Text → Option Period
+period_at text = period_of_parts text (divided text)
+
+-- the position, from 0, of the first text that says no period
+abbrev pub first_bad_period : List Text → Option ℕ
+first_bad_period = position (λ text. not (is_some (period_at text)))
+
+-- the periods that texts say, in order
+abbrev pub periods_in : List Text → List Period
+periods_in = filter_map period_at
+
+-- the losses, where streams have the periods that all these texts say
+abbrev pub losses_of : List Text → Meaning
+losses_of texts = option_map_or (λ i. Err (no_period i)) (first_bad_period texts) (Ok (losses (periods_in texts)))
+
+-- the option --period of `losses`, which may be given several times: each time a text
 abbrev pub stream_period_rule : Rule
-stream_period_rule = record period_rule { required = false }
+stream_period_rule = record (new_rule (codes "period")) { long = Some (codes "period"); value_names = 1; action = Some Append }
 
 -- the words of `losses`: its name, and its option
 abbrev pub losses_shape : Shape
 losses_shape = (with_rule (new_app (codes "losses")) stream_period_rule).top
 
--- the losses that the option says
+-- the losses that the uses of the option say
 abbrev pub losses_asked : List Row → Option Meaning
-losses_asked rows = Some (Ok (losses (option_and_then number_said (one_of (codes "period") rows))))
+losses_asked rows = Some (losses_of (unwrap_or (all_of (codes "period") rows) []))
 
 -- the subcommand of what is missing
 abbrev pub losing : Subcommand
@@ -231,12 +284,13 @@ IsNoMistake _ = Unit {0}
 abbrev pub AnswersTask : Asked → Result Task WordsError → Type 0
 AnswersTask asked answer = MatchResult answer (λ t. asked_by t ≡ asked) (λ error. error ≡ refused.Memory)
 
--- the words are refused by the text at this position, refused memory aside
-abbrev pub IsBlockError : ℕ → WordsError → Type 0
-IsBlockError i (refused.Words error) = ⊥
-IsBlockError i (refused.Block j) = j ≡ i
-IsBlockError i refused.Memory = Unit {0}
+-- the words are refused by the text that says nothing, refused memory aside
+abbrev pub IsUnsaid : Unsaid → WordsError → Type 0
+IsUnsaid unsaid (refused.Words error) = ⊥
+IsUnsaid unsaid (refused.Block i) = no_block i ≡ unsaid
+IsUnsaid unsaid (refused.Period i) = no_period i ≡ unsaid
+IsUnsaid unsaid refused.Memory = Unit {0}
 
--- no task is answered: the words are refused by the text of a control block at this position, refused memory aside
-abbrev pub AnswersBadBlock : ℕ → Result Task WordsError → Type 0
-AnswersBadBlock i answer = MatchResult answer (λ t. ⊥) (IsBlockError i)
+-- no task is answered: the words are refused by a text that says nothing, refused memory aside
+abbrev pub AnswersUnsaid : Unsaid → Result Task WordsError → Type 0
+AnswersUnsaid unsaid answer = MatchResult answer (λ t. ⊥) (IsUnsaid unsaid)

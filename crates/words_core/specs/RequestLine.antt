@@ -9,7 +9,6 @@ use Rattle.std.specs.Str.Parse.{IsNumeral, digits_value}
 use Rattle.clap.specs.Lexer.{long_of, short_of}
 use Rattle.clap.specs.Words.{App, IsAmong, Kinds, Row, Rule, Shape, Text, fault_of, first_of, kind_of, new_rule, one_of, subcommand_of, takes, with_subcommand}
 use Rattle.clap.specs.Kinds.{or_else}
-use Rattle.clap.specs.declared.builder.action.ArgAction.TheVariants.{SetTrue}
 use Rattle.clap.specs.declared.error.kind.ErrorKind.TheVariants as kind
 use Rattle.block_core.specs.declared.block.Block.{Block}
 use Rattle.words_core.specs.declared.option_words.Options.{Options}
@@ -18,8 +17,9 @@ use Rattle.words_core.specs.declared.option_words.Writing.TheVariants.{Lines, Da
 use Rattle.words_core.specs.declared.words.Request.{Request}
 use Rattle.words_core.specs.declared.words.WordsError.{WordsError}
 use Rattle.words_core.specs.declared.words.WordsError.TheVariants as refused
-use Rattle.words_core.specs.CommandLine.{Asked, AsksReplay, AsksWatch, IsBlockError, Meaning, SaysOption, asked_by, bare_program, losses, name_of, replay, subcommands, takes_options, task_asked, watch}
+use Rattle.words_core.specs.CommandLine.{Asked, AsksReplay, AsksWatch, IsUnsaid, Meaning, SaysOption, Unsaid, no_block, no_period, asked_by, bare_program, losses, name_of, option_named, replay, subcommands, takes_options, task_asked, watch}
 use Rattle.block_core.specs.Period.{IsPeriod}
+use Rattle.loss_core.specs.Periods.{Period}
 
 -- the options, which are given or not; a further one is one more constructor, name and line below
 pub data Switch : Type 0 where
@@ -29,9 +29,16 @@ pub data Switch : Type 0 where
   raw : Switch
   time : Switch
   json : Switch
+  changes : Switch
+  simulation : Switch
 
+-- those of each command that reads events
 abbrev pub switches : List Switch
 switches = capture ∷ skip_other ∷ unwrap ∷ raw ∷ time ∷ json ∷ []
+
+-- those of `replay`
+abbrev pub replay_switches : List Switch
+replay_switches = switches ++ changes ∷ simulation ∷ []
 
 -- the name of an option
 abbrev pub switch_name : Switch → Text
@@ -41,6 +48,8 @@ switch_name unwrap = codes "unwrap"
 switch_name raw = codes "raw"
 switch_name time = codes "time"
 switch_name json = codes "json"
+switch_name changes = codes "changes"
+switch_name simulation = codes "simulation"
 
 -- each line stands behind the date of its event
 abbrev pub is_dated : Writing → Bool
@@ -60,14 +69,12 @@ is_on options unwrap = options.unwraps
 is_on options raw = options.is_raw
 is_on options time = is_dated options.writes
 is_on options json = is_object options.writes
+is_on options changes = options.changes_alone
+is_on options simulation = options.simulates
 
 -- the word that gives an option
 abbrev pub switch_word : Switch → Text
 switch_word s = codes "--" ++ switch_name s
-
--- an option without a value, by this name
-abbrev pub option_named : Text → Rule
-option_named name = record (new_rule name) { long = Some name; action = Some SetTrue }
 
 -- the options without a value
 abbrev pub switch_rules : List Rule
@@ -110,16 +117,18 @@ options_in rows =
       unwraps = is_set (switch_name unwrap) rows;
       is_raw = is_set (switch_name raw) rows;
       writes = writes;
+      changes_alone = is_set (switch_name changes) rows;
+      simulates = is_set (switch_name simulation) rows;
     })
     (writing_by (is_set (switch_name time) rows) (is_set (switch_name json) rows))
 
--- what the matches of a subcommand ask for: a task with options, or none because of the text at this position
+-- what the matches of a subcommand ask for: a task with options, or none because of a text that says nothing
 abbrev pub Wish : Type 0
-Wish = Result (Asked × Options) ℕ
+Wish = Result (Asked × Options) Unsaid
 
 abbrev pub with_these : Options → Meaning → Wish
 with_these options (Ok t) = Ok (t, options)
-with_these options (Err i) = Err i
+with_these options (Err unsaid) = Err unsaid
 
 -- what the subcommand that was met asks for, from its name and its matches; nothing where options exclude each other
 abbrev pub request_asked : Text × List Row → Option Wish
@@ -158,9 +167,13 @@ request_faults words = or_else (fault_of request_line words) (if is_some (reques
 abbrev pub takes_request : List Text → Bool
 takes_request words = takes request_line words && is_some (request_of_words words)
 
--- the word gives an option
+-- the word gives an option of each command that reads events
 abbrev pub is_option : Text → Bool
 is_option word = list_any (λ o. bytes_eq word (switch_word o)) switches
+
+-- it gives one of `replay`
+abbrev pub is_replay_option : Text → Bool
+is_replay_option word = list_any (λ o. bytes_eq word (switch_word o)) replay_switches
 
 -- how often a word stands among words
 abbrev pub times : Text → List Text → ℕ
@@ -188,7 +201,7 @@ pub record AsksReplayWith (words : List Text) (blocks : List (Block Global)) (op
   pub arguments : List Text
   pub behind : words ≡ called ∷ codes "replay" ∷ arguments
   pub give : Give arguments options
-  pub asks : AsksReplay (called ∷ codes "replay" ∷ filter (λ word. not (is_option word)) arguments) blocks
+  pub asks : AsksReplay (called ∷ codes "replay" ∷ filter (λ word. not (is_replay_option word)) arguments) blocks
 
 -- words that ask for a watch, and the words of the options before, between and behind its own two
 pub record AsksWatchWith (words : List Text) (period : ℕ) (id : Text) (options : Options) : Type 0 where
@@ -201,55 +214,62 @@ pub record AsksWatchWith (words : List Text) (period : ℕ) (id : Text) (options
   pub are_options : list_all is_option (before ++ (between ++ after)) ≡ true
   pub give : Give (before ++ (between ++ after)) options
 
--- an option --period whose decimal digits say this number, which is one that a watch may have
-pub record SaysPeriod (period : ℕ) (words : List Text) : Type 0 where
+-- the text of a period with these digits: the svID before them and `=` (61), where it is that of the streams with an svID
+abbrev pub period_text : Option Text → Text → Text
+period_text None digits = digits
+period_text (Some id) digits = id ++ (61 ∷ digits)
+
+-- an option --period that says this period by decimal digits
+pub record SaysPeriod (p : Period) (words : List Text) : Type 0 where
   pub digits : Text
-  pub says : SaysOption (codes "--period") digits words
+  pub says : SaysOption (codes "--period") (period_text p.id digits) words
   pub are_digits : IsNumeral 10 digits
-  pub number : digits_value 10 digits ≡ period
-  pub range : IsPeriod period
+  pub number : digits_value 10 digits ≡ p.number
+  pub range : IsPeriod p.number
 
--- the option says this period, or it is left out
-abbrev pub MaySayPeriod : Option ℕ → List Text → Type 0
-MaySayPeriod None words = words ≡ []
-MaySayPeriod (Some period) words = SaysPeriod period words
+-- an option --period for each of these periods in their order, and before, between and behind them these other words
+abbrev pub SayPeriods : List Period → List Text → List Text → Type 0
+SayPeriods [] others words = words ≡ others
+SayPeriods (p ∷ periods) others words =
+    (before : List Text) × (said : List Text) × (rest : List Text) × (behind : List Text)
+    × (words ≡ before ++ (said ++ rest)) × (others ≡ before ++ behind) × SaysPeriod p said × SayPeriods periods behind rest
 
--- the program's name, `losses`, the option --period or none, the words of the other options before and behind it, and then
--- nothing, or the mark behind which no option follows
-pub record AsksLossesWith (words : List Text) (period : Option ℕ) (options : Options) : Type 0 where
+-- the program's name, `losses`, an option --period for each of these periods, the words of the other options before, between and
+-- behind them, and then nothing, or the mark behind which no option follows
+pub record AsksLossesWith (words : List Text) (periods : List Period) (options : Options) : Type 0 where
   pub called : Text
-  pub before : List Text
-  pub said : List Text
-  pub after : List Text
+  pub arguments : List Text
+  pub others : List Text
   pub mark : List Text
-  pub behind : words ≡ called ∷ codes "losses" ∷ ((before ++ (said ++ after)) ++ mark)
-  pub are_options : list_all is_option (before ++ after) ≡ true
-  pub give : Give (before ++ after) options
-  pub says : MaySayPeriod period said
+  pub behind : words ≡ called ∷ codes "losses" ∷ (arguments ++ mark)
+  pub says : SayPeriods periods others arguments
+  pub are_options : list_all is_option others ≡ true
+  pub give : Give others options
   pub end : (mark ≡ []) ⊎ (mark ≡ codes "--" ∷ [])
 
 -- the words ask for this task with these options
 abbrev pub AsksWith : List Text → Asked → Options → Type 0
 AsksWith words (replay blocks) options = AsksReplayWith words blocks options
 AsksWith words (watch period id) options = AsksWatchWith words period id options
-AsksWith words (losses period) options = AsksLossesWith words period options
+AsksWith words (losses periods) options = AsksLossesWith words periods options
 AsksWith words t options = AsksByNameWith words t options
 
 -- the words ask for this task, with whichever options
 abbrev pub Asks : List Text → Asked → Type 0
 Asks words t = (options : Options) × AsksWith words t options
 
--- the words may be refused so: by one of their faults, by the first text that says no control block
+-- the words may be refused so: by one of their faults, by the first text that says no control block, or no period,
 -- where they have no fault, or because memory was refused
 abbrev pub MayRefuseRequest : List Text → WordsError → Type 0
 MayRefuseRequest words (refused.Words error) = IsAmong (kind_of error) (request_faults words)
-MayRefuseRequest words (refused.Block i) = (request_faults words ≡ []) × (request_of_words words ≡ Some (Err i))
+MayRefuseRequest words (refused.Block i) = (request_faults words ≡ []) × (request_of_words words ≡ Some (Err (no_block i)))
+MayRefuseRequest words (refused.Period i) = (request_faults words ≡ []) × (request_of_words words ≡ Some (Err (no_period i)))
 MayRefuseRequest words refused.Memory = Unit {0}
 
 -- this task with these options is answered, refused memory aside
 abbrev pub AnswersRequest : Asked → Options → Result Request WordsError → Type 0
 AnswersRequest asked options answer = MatchResult answer (λ r. (asked_by r.task ≡ asked) × (r.options ≡ options)) (λ error. error ≡ refused.Memory)
 
--- no task is answered: the words are refused by the text of a control block at this position, refused memory aside
-abbrev pub RefusesBlock : ℕ → Result Request WordsError → Type 0
-RefusesBlock i answer = MatchResult answer (λ r. ⊥) (IsBlockError i)
+-- no task is answered: the words are refused by a text that says nothing, refused memory aside
+abbrev pub RefusesUnsaid : Unsaid → Result Request WordsError → Type 0
+RefusesUnsaid unsaid answer = MatchResult answer (λ r. ⊥) (IsUnsaid unsaid)

@@ -2,6 +2,7 @@
 #![tactic(auto)]
 
 mod option_words;
+mod period_words;
 mod words;
 
 pub use option_words::{Options, Writing};

@@ -1,7 +1,8 @@
 //! The options of the commands that read events, beside words of their own: on the input, and on what is written.
 ghost use Rattle.std.specs.Prelude.{◌≡◌, fold, true, false};
 ghost use Rattle.clap.specs.Words.{App, Rule, found_of, rows_of, rule_of, with_rule, with_subcommand};
-ghost use Rattle.words_core.specs.RequestLine.{is_set, option_named, options_in, read_rule, switch_rules, writing_by};
+ghost use Rattle.words_core.specs.CommandLine.{option_named};
+ghost use Rattle.words_core.specs.RequestLine.{is_set, options_in, read_rule, switch_rules, writing_by};
 ghost use Rattle.words_core.specs.computed.OfferedLine.{IsApp, IsLocal, offering};
 
 use clap::{Arg, ArgAction, ArgMatches, Command};
@@ -31,6 +32,10 @@ pub struct Options {
     pub is_raw: bool,
     /// How each line is written.
     pub writes: Writing,
+    /// Of the entries of a replay those are told that are changes.
+    pub changes_alone: bool,
+    /// A replay takes simulated frames from the start.
+    pub simulates: bool,
 }
 
 /// A command, where memory for it is granted.
@@ -70,8 +75,8 @@ fn read_option<'a>(alloc: Global) -> Arg<'a>
         .help(READ_HELP)
 }
 
-// An option without a value.
-fn flag_option<'a>(alloc: Global, name: &'a str, help: &'a str) -> Arg<'a>
+/// An option without a value.
+pub fn flag_option<'a>(alloc: Global, name: &'a str, help: &'a str) -> Arg<'a>
     ensures rule { rule_of result ≡ option_named name.now }
     ensures local { result.global ≡ false }
 {
@@ -170,6 +175,8 @@ pub fn options_met(matches: &ArgMatches<'_>) -> Option<Options>
     let skips_other = is_set(matches, "skip-other");
     let unwraps = is_set(matches, "unwrap");
     let is_raw = is_set(matches, "raw");
+    let changes_alone = is_set(matches, "changes");
+    let simulates = is_set(matches, "simulation");
     match writing_by(is_set(matches, "time"), is_set(matches, "json")) {
         Some(writes) => Some(Options {
             is_capture,
@@ -177,6 +184,8 @@ pub fn options_met(matches: &ArgMatches<'_>) -> Option<Options>
             unwraps,
             is_raw,
             writes,
+            changes_alone,
+            simulates,
         }),
         None => None,
     }

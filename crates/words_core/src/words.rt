@@ -4,17 +4,20 @@ ghost use Rattle.std.specs.List.{list_any};
 ghost use Rattle.clap.specs.Words.{App, all_of, app_of, first_of, found_of, kind_of, new_app, rows_of, rule_of, subcommand_rows_of, takes, with_subcommand};
 ghost use Rattle.clap.specs.Walk.{texts};
 ghost use Rattle.clap.specs.declared.error.kind.ErrorKind.TheVariants.{OutOfMemory};
-ghost use Rattle.words_core.specs.CommandLine.{AnswersBadBlock, AnswersTask, Asked, HasPeriod, IsNoMistake};
-ghost use Rattle.words_core.specs.CommandLine.{asked_by, bare_program, block_rule, id_rule, is_plain, losing, losses_asked, name_of, period_rule, readers, replay_of, replaying, stream_period_rule, task_asked, watch, watch_asked, watching};
+ghost use Rattle.words_core.specs.CommandLine.{AnswersTask, AnswersUnsaid, Asked, HasPeriod, IsNoMistake, Unsaid};
+ghost use Rattle.words_core.specs.CommandLine.{asked_by, bare_program, block_rule, id_rule, is_plain, losing, losses_asked};
+ghost use Rattle.words_core.specs.CommandLine.{losses_of, name_of, period_rule, readers, replay_of, replaying, stream_period_rule, task_asked, watch, watch_asked, watching};
 ghost use Rattle.words_core.specs.computed.PrivateCalls.{AnswersWords, MayAnswer};
-ghost use Rattle.words_core.specs.RequestLine.{AnswersRequest, Asks, AsksWith, MayRefuseRequest, RefusesBlock, file_asked, file_of_words};
+ghost use Rattle.words_core.specs.RequestLine.{AnswersRequest, Asks, AsksWith, MayRefuseRequest, RefusesUnsaid, file_asked, file_of_words};
 ghost use Rattle.words_core.specs.RequestLine.{is_reading, offered, request_asked, request_faults, request_line, request_of_words, takes_request, task_of_words};
 ghost use Rattle.words_core.specs.computed.OfferedLine.{IsApp, IsExclusion, IsLocal, MayGrant};
 
-use crate::option_words::{Made, Options, options_met, with_arg, with_offering};
+use crate::option_words::{Made, Options, flag_option, options_met, with_arg, with_offering};
+use crate::period_words::{PeriodError, read_period};
 use block_core::{Block, BlockError, read_block};
 use clap::error::ErrorKind;
-use clap::{Arg, ArgMatches, Command, value_parser};
+use clap::{Arg, ArgAction, ArgMatches, Command, value_parser};
+use loss_core::StreamPeriod;
 use std::alloc::Global;
 use thiserror::Error;
 
@@ -44,8 +47,8 @@ pub enum Task {
     Import,
     /// What is missing of each control block and stream, and when.
     Losses {
-        /// After how many samples the counters begin at 0 again, 2 to 65,536; none where streams are counted alone.
-        period: Option<u32>,
+        /// The periods of streams, each 2 to 65,536; a stream without one is counted alone.
+        periods: Vec<StreamPeriod<Global>, Global>,
     },
 }
 
@@ -89,6 +92,9 @@ pub enum WordsError {
     /// The text of a control block says none: the position, from 0, of the first such text.
     #[error("block {0} cannot be read")]
     Block(usize),
+    /// The text of a period says none: the position, from 0, of the first such text.
+    #[error("period {0} cannot be read")]
+    Period(usize),
     /// Memory was refused.
     #[error("out of memory")]
     Memory,
@@ -215,6 +221,13 @@ fn block_words<'a>(alloc: Global) -> Arg<'a>
     )
 }
 
+// What the help says of `--changes`.
+const CHANGES_HELP: &str = "Leaves out the lines refreshed, repeated, not-subscribed and sampled";
+
+// What the help says of `--simulation`.
+const SIMULATION_HELP: &str =
+    "Takes simulated frames from the start, as a device whose LPHD.Sim is on";
+
 // The program with the subcommand `replay`.
 fn with_replay<'a>(alloc: Global, program: Made<'a>) -> Made<'a>
     ensures { (a : App) → IsApp a program.entry → IsApp (with_subcommand a (offered true replaying.shape)) result }
@@ -226,7 +239,10 @@ fn with_replay<'a>(alloc: Global, program: Made<'a>) -> Made<'a>
         "Example: goose replay --capture '3001,BAY1PROT/LLN0$GO$gcbTrip,BAY1PROT/LLN0$dsTrip,BAY1_Trip,1,2' < examples/two_bays.pcapng",
         REPLAY_MORE,
     );
-    with_offering(alloc, program, with_arg(replay, block_words(alloc)), true)
+    let replay = with_arg(replay, block_words(alloc));
+    let replay = with_arg(replay, flag_option(alloc, "changes", CHANGES_HELP));
+    let replay = with_arg(replay, flag_option(alloc, "simulation", SIMULATION_HELP));
+    with_offering(alloc, program, replay, true)
 }
 
 // What the help of `watch` says of `--period`.
@@ -235,18 +251,20 @@ const PERIOD_HELP: &str =
 
 // What the help of `losses` says of it.
 const STREAM_PERIOD_HELP: &str =
-    "How many samples smpCnt counts before it begins at 0 again, from 2 to 65536: those of one second, so 4000 for 80 samples a cycle at 50 Hz. Without it the samples of a stream are counted, and nothing else is said of them";
+    "How many samples smpCnt counts before it begins at 0 again, from 2 to 65536: those of one second, so 4000 for 80 samples a cycle at 50 Hz. \
+     May be given several times: ID=N is the N of the streams with the svID ID, N alone that of all others, and of several the last one counts. \
+     The samples of a stream without a period are counted, and changes of smpSynch told";
 
-// The option `--period`, which may be left out.
-fn stream_period_option<'a>(alloc: Global, help: &'a str) -> Arg<'a>
+// The option `--period` of `losses`, which may be given several times.
+fn stream_period_option<'a>(alloc: Global) -> Arg<'a>
     ensures rule { rule_of result ≡ stream_period_rule }
     ensures local { result.global ≡ false }
 {
     Arg::new(alloc, "period")
         .long("period")
-        .value_name("N")
-        .value_parser(value_parser!(u32).range(2..=65536))
-        .help(help)
+        .action(ArgAction::Append)
+        .value_name("[ID=]N")
+        .help(STREAM_PERIOD_HELP)
 }
 
 // The option `--period` of `watch`.
@@ -254,7 +272,12 @@ fn period_option<'a>(alloc: Global) -> Arg<'a>
     ensures rule { rule_of result ≡ period_rule }
     ensures local { result.global ≡ false }
 {
-    stream_period_option(alloc, PERIOD_HELP).required(true)
+    Arg::new(alloc, "period")
+        .long("period")
+        .required(true)
+        .value_name("N")
+        .value_parser(value_parser!(u32).range(2..=65536))
+        .help(PERIOD_HELP)
 }
 
 // The option `--id` of `watch`.
@@ -295,7 +318,7 @@ fn with_losses<'a>(alloc: Global, program: Made<'a>) -> Made<'a>
         "Example: goose losses --capture < examples/two_bays.pcapng",
         LOSSES_MORE,
     );
-    let losses = with_arg(losses, stream_period_option(alloc, STREAM_PERIOD_HELP));
+    let losses = with_arg(losses, stream_period_option(alloc));
     with_offering(alloc, program, losses, true)
 }
 
@@ -419,12 +442,32 @@ fn watch_met(alloc: Global, matches: &ArgMatches<'_>) -> Option<Result<Task, Wor
     Some(watch_task(alloc, period, id))
 }
 
-// The task of the matches of `losses`.
-fn losses_met(matches: &ArgMatches<'_>) -> Task
-    ensures { Some (Ok (asked_by result)) ≡ losses_asked (rows_of (found_of matches.now)) }
+// The task of telling losses, where streams have the periods that texts say.
+fn losses_task(alloc: Global, words: &[&str]) -> Result<Task, WordsError>
+    ensures { AnswersWords (losses_of (texts words.now)) result }
 {
-    Task::Losses {
-        period: matches.get_one::<u32>("period"),
+    let mut periods = Vec::new(alloc);
+    for (position, given) in words.iter().enumerate() {
+        match read_period(alloc, given) {
+            Ok(period) => {
+                if periods.push(period).is_err() {
+                    return Err(WordsError::Memory);
+                }
+            }
+            Err(PeriodError::PeriodForm) => return Err(WordsError::Period(position)),
+            Err(PeriodError::Memory) => return Err(WordsError::Memory),
+        }
+    }
+    Ok(Task::Losses { periods })
+}
+
+// The task of the matches of `losses`.
+fn losses_met(alloc: Global, matches: &ArgMatches<'_>) -> Result<Task, WordsError>
+    ensures { MayAnswer (losses_asked (rows_of (found_of matches.now))) (Some result) }
+{
+    match matches.get_raw("period") {
+        Some(words) => losses_task(alloc, words),
+        None => losses_task(alloc, &[]),
     }
 }
 
@@ -440,7 +483,7 @@ fn task_of(alloc: Global, name: &str, matches: &ArgMatches<'_>) -> Option<Result
         "replay" => replay_met(alloc, matches),
         "publish" => Some(Ok(Task::Publish)),
         "watch" => watch_met(alloc, matches),
-        "losses" => Some(Ok(losses_met(matches))),
+        "losses" => Some(losses_met(alloc, matches)),
         "import" => Some(Ok(Task::Import)),
         _ => None,
     }
@@ -454,7 +497,7 @@ fn with_these<'a>(
 ) -> Result<Request<'a>, WordsError>
     ensures file { IfOk result (λ r. option_map (λ s. s.now) r.file ≡ option_map (λ s. s.now) file.entry) }
     ensures answered { (asked : Asked) → AnswersTask asked answer → AnswersRequest asked options result }
-    ensures refused { (i : ℕ) → AnswersBadBlock i answer → RefusesBlock i result }
+    ensures refused { (unsaid : Unsaid) → AnswersUnsaid unsaid answer → RefusesUnsaid unsaid result }
 {
     match answer {
         Ok(task) => Ok(Request {
@@ -541,13 +584,13 @@ fn read_line<'a>(alloc: Global, words: &'a [&'a str]) -> Result<Request<'a>, Wor
 }
 
 /// The task that the words ask for, its options, `--capture`, `--skip-other`, `--unwrap`, `--raw`, `--time` and `--json`, which the commands
-/// `show`, `check`, `blocks`, `replay`, `watch` and `losses` take, and the file that it is to read, `-r` or `--read`, which all
-/// take. The first word is the program's name.
+/// `show`, `check`, `blocks`, `replay`, `watch` and `losses` take, and `--changes` and `--simulation` of `replay` alone, and the
+/// file that it is to read, `-r` or `--read`, which all take. The first word is the program's name.
 ///
 /// # Errors
 ///
 /// `Words` where the words have a mistake or ask for help or the version; `Block` where they ask for a
-/// replay and some text says no control block; `Memory` where memory is refused. An option that is given twice is a
+/// replay and some text says no control block; `Period` where they ask for losses and some text says no period; `Memory` where memory is refused. An option that is given twice is a
 /// mistake, and so is one of another command, or `--time` beside `--json`.
 pub fn read_request<'a>(alloc: Global, words: &'a [&'a str]) -> Result<Request<'a>, WordsError>
     ensures found { IfOk result (λ r. is_plain (asked_by r.task) ≡ true → list_any is_reading (texts words.now) ≡ false → AsksWith (texts words.now) (asked_by r.task) r.options) }
@@ -558,7 +601,7 @@ pub fn read_request<'a>(alloc: Global, words: &'a [&'a str]) -> Result<Request<'
     ensures faultless { IfOk result (λ r. request_faults (texts words.now) ≡ []) }
     ensures taken { takes_request (texts words.now) ≡ true → IfErr result IsNoMistake }
     ensures refused { IfErr result (MayRefuseRequest (texts words.now)) }
-    ensures bad_block { (i : ℕ) → request_faults (texts words.now) ≡ [] → request_of_words (texts words.now) ≡ Some (Err i) → RefusesBlock i result }
+    ensures unsaid { (unsaid : Unsaid) → request_faults (texts words.now) ≡ [] → request_of_words (texts words.now) ≡ Some (Err unsaid) → RefusesUnsaid unsaid result }
 {
     read_line(alloc, words)
 }
@@ -576,7 +619,7 @@ pub fn read_words<'a>(alloc: Global, words: &'a [&'a str]) -> Result<Task, Words
     ensures faultless { IfOk result (λ t. request_faults (texts words.now) ≡ []) }
     ensures taken { takes_request (texts words.now) ≡ true → IfErr result IsNoMistake }
     ensures refused { IfErr result (MayRefuseRequest (texts words.now)) }
-    ensures bad_block { (i : ℕ) → request_faults (texts words.now) ≡ [] → request_of_words (texts words.now) ≡ Some (Err i) → AnswersBadBlock i result }
+    ensures unsaid { (unsaid : Unsaid) → request_faults (texts words.now) ≡ [] → request_of_words (texts words.now) ≡ Some (Err unsaid) → AnswersUnsaid unsaid result }
 {
     match read_request(alloc, words) {
         Ok(request) => Ok(request.task),

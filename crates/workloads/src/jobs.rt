@@ -17,7 +17,7 @@ use ber_core::Octets;
 use block_core::Block;
 use capture_core::PacketReader;
 use engine_core::{Ending, Form, Stopped, Style, status};
-use exchange_engines::{publish, replay, replay_over, watch, watch_over};
+use exchange_engines::{PLAINLY, publish, replay, replay_over, watch, watch_over};
 use frame_core::SkipOther;
 use frame_engines::{check, import, rewrite, show};
 use inventory_engine::blocks;
@@ -228,6 +228,7 @@ impl Work {
         let Stopped { ending, .. } = replay_over(
             self.alloc,
             Style::Lines(Form::Text),
+            PLAINLY,
             events,
             bays,
             &mut [],

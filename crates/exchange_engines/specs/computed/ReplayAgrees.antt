@@ -17,8 +17,9 @@ use Rattle.engine_core.specs.EventsText.{AgreesOnNothing}
 use Rattle.exchange_engines.specs.EntryObject.{AreEntryObjects, IsEntryObject, act_fields, entry_fields, pair_fields}
 use Rattle.exchange_engines.specs.EntryText.{entry_line, entry_lines}
 use Rattle.exchange_engines.specs.ExchangeNames.{name_of_reason}
+use Rattle.exchange_engines.specs.declared.engines.replay.ReplayManner.{ReplayManner}
 use Rattle.exchange_engines.specs.ReplayText.{Says, entries_in}
-use Rattle.exchange_engines.specs.computed.ReplayStep.{IsSaid, replay_allows, replay_says}
+use Rattle.exchange_engines.specs.computed.ReplayStep.{IsSaid, replay_allows, replay_tells}
 
 -- a line is not empty
 line_there : {A : Type 0} (n : ℕ) (x : Entry A) → entry_line n x ≡ [] → ⊥
@@ -76,6 +77,6 @@ module _ {A : Type 0} (blocks : List (Block A)) (said : Says A) (before : List (
   said_allowed forms.Text text is = ap (λ (l : List ℕ). (l, false)) (sym is)
   said_allowed (forms.Object counted) text is = (is, refl)
 
-pub replay_agrees : {A : Type 0} (blocks : List (Block A)) (form : Form) → AgreesOnNothing (replay_allows blocks form)
-replay_agrees blocks form before e written other is too none =
-    nothing_said blocks (replay_says blocks) before e form other too (none_said blocks (replay_says blocks) before e form written is none)
+pub replay_agrees : {A : Type 0} (manner : ReplayManner) (blocks : List (Block A)) (form : Form) → AgreesOnNothing (replay_allows manner blocks form)
+replay_agrees manner blocks form before e written other is too none =
+    nothing_said blocks (replay_tells manner blocks) before e form other too (none_said blocks (replay_tells manner blocks) before e form written is none)

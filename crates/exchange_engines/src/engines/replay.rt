@@ -1,25 +1,24 @@
 //! `replay`: the entries of a subscriber, one line an entry.
-ghost use Rattle.std.specs.Prelude.{◌≡◌, ◌++◌, [], ℕ, List, IsOk, false, option_map, codes};
+ghost use Rattle.std.specs.Prelude.{◌≡◌, ◌<◌, ◌≤◌, ◌++◌, [], ℕ, List, IfOk, IsOk, OnOk, true, false, option_map, codes, vec_capacity};
 ghost use Rattle.std.specs.Fmt.{decimal};
 ghost use Rattle.list_core.specs.declared.device.InputEnd.{InputEnd};
 ghost use Rattle.list_core.specs.Device.{GivesOctets};
-ghost use Rattle.list_core.specs.ItemReader.{item_state};
 ghost use Rattle.engine_core.specs.Ending.{is_write_fault};
 ghost use Rattle.engine_core.specs.EventsText.{fault_text, line_in};
 ghost use Rattle.engine_core.specs.Input.{reader_of};
 ghost use Rattle.text_core.specs.Pieces.{AppendsText};
-ghost use Rattle.exchange_engines.specs.ReplayText.{LeavesTwiceIn, ReplayWrites, ReplayWritesTo, ReplaysOver, twice_line, twice_stop};
+ghost use Rattle.exchange_engines.specs.ReplayText.{LeavesTwiceIn, ReplayWrites, ReplaysOver, told_of, twice_line, twice_stop};
 ghost use Rattle.object_core.specs.Objects.{AppendsSome};
 ghost use Rattle.exchange_engines.specs.EntryObject.{twice_object};
 ghost use Rattle.exchange_engines.specs.computed.ReplayAgrees.{replay_agrees};
-ghost use Rattle.exchange_engines.specs.computed.ReplayStep.{IsSaid, kept_after, replay_allows};
+ghost use Rattle.exchange_engines.specs.computed.ReplayStep.{IsSaid, ReplayStands, kept_after, replay_allows};
+ghost use Rattle.block_core.specs.declared.block.Block.{Block as SpecBlock};
+ghost use Rattle.subscribe_core.specs.State.{fresh_state};
 
 use crate::texts::entry::put_entry_lines;
 use crate::texts::entry_object::{EntryHeading, put_entry_objects, put_twice_object};
-use engine_core::{Ending, EventEngine, OfEvents, Stopped, Style, refuse, run_over, run_to_stop};
-use list_core::{
-    Event, EventLines, InputFault, ItemFault, ItemReader, ListCause, ReadItems, Sink, Source,
-};
+use engine_core::{Ending, EventEngine, Stopped, Style, refuse, run_events};
+use list_core::{Event, EventKind, EventLines, InputFault, ItemReader, ReadItems, Sink, Source};
 use object_core::{Form, LastObject};
 use std::alloc::{AllocError, Allocator};
 use subscribe_core::{Block, Entry, SubscribeFault, Subscriber};
@@ -51,9 +50,37 @@ fn mark_heard<A: Allocator>(heard: &mut [bool], entries: &[Entry<A>]) {
     }
 }
 
-/// What `replay` writes: what a subscriber answers. The memory of the entries of an event is used again for those of the next.
+/// How a replay takes frames, and what it tells of them.
+#[derive(Clone, Copy)]
+pub struct ReplayManner {
+    /// Simulated frames are taken from the start, as if the simulation mode were set on before the first event.
+    pub simulates: bool,
+    /// Of the entries of an event changes alone are told: neither frames that say nothing new, nor those that are none of the blocks'.
+    pub changes_alone: bool,
+}
+
+/// Real frames are taken until the mode is set on, and each entry is told.
+pub const PLAINLY: ReplayManner = ReplayManner {
+    simulates: false,
+    changes_alone: false,
+};
+
+// Leaves of the entries of an event what is told of them.
+#[inline(always)]
+fn keep_told<A: Allocator>(changes_alone: bool, entries: &mut Vec<Entry<A>, A>)
+    ensures told { entries.new.items ≡ told_of changes_alone entries.old.items }
+    ensures capacity { vec_capacity entries.old ≤ vec_capacity entries.new }
+{
+    if changes_alone {
+        entries.retain(|entry| entry.is_change());
+    }
+}
+
+/// What `replay` writes: what a subscriber answers, in a manner. The memory of the entries of an event is used again for those of
+/// the next.
 #[derive(Drop)]
 struct Replaying<'a, A: Allocator> {
+    manner: ReplayManner,
     subscriber: Subscriber<A>,
     entries: Vec<Entry<A>, A>,
     /// Whether a block, by its position, has had an entry, for as many blocks as there are flags.
@@ -88,11 +115,11 @@ fn put_said<A: Allocator>(
 }
 
 impl<A: Allocator + Copy> EventEngine<A> for Replaying<'_, A> {
-    ghost allows = { λ s. replay_allows s.subscriber.state.blocks };
+    ghost allows = { λ s. replay_allows s.manner s.subscriber.state.blocks };
 
-    ghost stands = { λ s before. s.subscriber.state ≡ kept_after s.subscriber.state.blocks before };
+    ghost stands = { λ s before. ReplayStands s.manner s.subscriber.state (vec_capacity s.entries) before };
 
-    ghost agrees = { λ s form. replay_agrees s.subscriber.state.blocks form };
+    ghost agrees = { λ s form. replay_agrees s.manner s.subscriber.state.blocks form };
 
     #[inline(always)]
     fn put_event(
@@ -103,12 +130,67 @@ impl<A: Allocator + Copy> EventEngine<A> for Replaying<'_, A> {
         event: &Event<A>,
     ) -> Result<bool, AllocError> {
         self.subscriber.take_into(event, &mut self.entries)?;
+        mark_heard(self.heard, self.entries.as_slice());
+        keep_told(self.manner.changes_alone, &mut self.entries);
         let blocks = self.subscriber.blocks();
         let entries = self.entries.as_slice();
         put_said(line, form, number, event.moment, blocks, entries)?;
-        mark_heard(self.heard, self.entries.as_slice());
         Ok(false)
     }
+}
+
+// Has a fresh subscriber take simulated frames, if it is to do so from the start.
+fn open_mode<A: Allocator + Copy>(
+    simulates: bool,
+    subscriber: &mut Subscriber<A>,
+    entries: &mut Vec<Entry<A>, A>,
+) -> Result<(), AllocError>
+    ensures state { (blocks : List (SpecBlock A)) → subscriber.old.state ≡ fresh_state blocks → OnOk result (subscriber.new.state ≡ kept_after simulates blocks []) }
+    ensures quiet { (blocks : List (SpecBlock A)) → subscriber.old.state ≡ fresh_state blocks → IsOk result }
+    ensures capacity { vec_capacity entries.old ≤ vec_capacity entries.new }
+{
+    if simulates {
+        let mode_on = Event {
+            moment: 0,
+            kind: EventKind::Mode(true),
+        };
+        return subscriber.take_into(&mode_on, entries);
+    }
+    Ok(())
+}
+
+// A list for the entries of an event. Where changes alone are told, it has room for an entry, so that an event of which nothing
+// is told asks for no memory.
+fn room_for<A: Allocator>(alloc: A, changes_alone: bool) -> Result<Vec<Entry<A>, A>, AllocError>
+    ensures room { changes_alone ≡ true → IfOk result (λ entries. 0 < vec_capacity entries) }
+    ensures quiet { changes_alone ≡ false → IsOk result }
+{
+    if changes_alone {
+        Vec::with_capacity(alloc, 1)
+    } else {
+        Ok(Vec::new(alloc))
+    }
+}
+
+// The engine of a replay before any event.
+fn begun<'a, A: Allocator + Copy>(
+    alloc: A,
+    manner: ReplayManner,
+    mut subscriber: Subscriber<A>,
+    heard: &'a mut [bool],
+) -> Result<Replaying<'a, A>, AllocError>
+    ensures manner { IfOk result (λ s. s.manner ≡ manner) }
+    ensures begun { (blocks : List (SpecBlock A)) → subscriber.state ≡ fresh_state blocks → IfOk result (λ s. (s.subscriber.state.blocks ≡ blocks) × ReplayStands manner s.subscriber.state (vec_capacity s.entries) []) }
+    ensures quiet { (blocks : List (SpecBlock A)) → subscriber.state ≡ fresh_state blocks → manner.changes_alone ≡ false → IsOk result }
+{
+    let mut entries = room_for(alloc, manner.changes_alone)?;
+    open_mode(manner.simulates, &mut subscriber, &mut entries)?;
+    Ok(Replaying {
+        manner,
+        subscriber,
+        entries,
+        heard,
+    })
 }
 
 // Appends a line of a word and a position.
@@ -181,6 +263,7 @@ fn stop_of_twice<F>(ending: Ending, position: usize) -> Option<ReplayStop<F>>
 }
 
 /// What a run hands out that stops by no other reason than its input's fault.
+#[inline(always)]
 pub fn of_input<I, F>(stopped: Stopped<I, F>) -> Stopped<I, ReplayStop<F>>
     ensures ending { result.ending ≡ stopped.ending }
     ensures fault { result.fault ≡ option_map ReplayStop.Input stopped.fault }
@@ -243,60 +326,14 @@ pub fn replay<A: Allocator + Copy, R: Source, W: Sink>(
     ensures read_fault { result.0 ≡ Ending.ReadFault → R.ending result.1 ≡ InputEnd.Failed }
     ensures fault { W.failed writer.new ≡ is_write_fault result.0 }
 {
-    replay_to_stop(alloc, reader, blocks, &mut [], writer).into_source()
+    let events = ItemReader::new(reader, EventLines::First);
+    let style = Style::Lines(Form::Text);
+    replay_over(alloc, style, PLAINLY, events, blocks, &mut [], writer).into_source()
 }
 
-/// As `replay`, and hands out the fault by which it ended, and the reader of the events. Of each block that has had an entry,
-/// which a frame of it has, the flag at its position is set, if there is one.
-#[inline(never)]
-pub fn replay_to_stop<A: Allocator + Copy, R: Source, W: Sink>(
-    alloc: A,
-    reader: R,
-    blocks: Vec<Block<A>, A>,
-    heard: &mut [bool],
-    writer: &mut W,
-) -> Stopped<ItemReader<R, EventLines>, ReplayStop<ItemFault<ListCause>>>
-    requires open { R.ending reader ≡ InputEnd.Open }
-    requires works { W.failed writer.old ≡ false }
-    ensures text { (given : List ℕ) × GivesOctets (R.left reader) (item_state R.left R.ending result.reader).left given
-        × ReplayWritesTo blocks.items result.ending result.fault (item_state R.left R.ending result.reader).ending given (W.contents writer.old) (W.contents writer.new) }
-    ensures read_fault { result.ending ≡ Ending.ReadFault → (item_state R.left R.ending result.reader).ending ≡ InputEnd.Failed }
-    ensures fault { W.failed writer.new ≡ is_write_fault result.ending }
-{
-    match Subscriber::of_blocks(alloc, blocks) {
-        Ok(subscriber) => of_input(run_to_stop(
-            alloc,
-            EventLines::First,
-            OfEvents {
-                engine: Replaying {
-                    subscriber,
-                    entries: Vec::new(alloc),
-                    heard,
-                },
-                style: Style::Lines(Form::Text),
-                undated: Vec::new(alloc),
-            },
-            b"",
-            reader,
-            writer,
-        )),
-        Err((fault, blocks)) => match fault {
-            SubscribeFault::SameBlockTwice(position) => {
-                let style = Style::Lines(Form::Text);
-                let blocks = blocks.as_slice();
-                let (ending, reader) = refuse_twice(alloc, style, blocks, position, reader, writer);
-                let events = ItemReader::new(reader, EventLines::First);
-                unread(ending, stop_of_twice(ending, position), events)
-            }
-            SubscribeFault::Memory(_) => {
-                let events = ItemReader::new(reader, EventLines::First);
-                unread(Ending::Memory, None, events)
-            }
-        },
-    }
-}
-
-/// As `replay_to_stop`, over any reader of events, in a style: the last line is that of the input's fault.
+/// As `replay`, over any reader of events, in a style and a manner: the last line is that of the input's fault. Hands out why it ended, and the
+/// reader of the events. Of each block that has had an entry, which a frame of it has, the flag at its position is set, if there is one.
+#[inline(always)]
 pub fn replay_over<
     A: Allocator + Copy,
     F: InputFault + LastLine + LastObject + Drop,
@@ -305,29 +342,21 @@ pub fn replay_over<
 >(
     alloc: A,
     style: Style,
+    manner: ReplayManner,
     events: I,
     blocks: Vec<Block<A>, A>,
     heard: &mut [bool],
     writer: &mut W,
 ) -> Stopped<I, ReplayStop<F>>
     requires works { W.failed writer.old ≡ false }
-    ensures text { ReplaysOver style blocks.items (reader_of I.answers I.number F.refused F.failed) (fault_text F.last_line F.last_object) events result (W.contents writer.old) (W.contents writer.new) }
+    ensures text { ReplaysOver style manner blocks.items (reader_of I.answers I.number F.refused F.failed) (fault_text F.last_line F.last_object) events result (W.contents writer.old) (W.contents writer.new) }
     ensures fault { W.failed writer.new ≡ is_write_fault result.ending }
 {
     match Subscriber::of_blocks(alloc, blocks) {
-        Ok(subscriber) => {
-            let engine = Replaying {
-                subscriber,
-                entries: Vec::new(alloc),
-                heard,
-            };
-            let engine = OfEvents {
-                engine,
-                style,
-                undated: Vec::new(alloc),
-            };
-            of_input(run_over(alloc, engine, b"", events, writer))
-        }
+        Ok(subscriber) => match begun(alloc, manner, subscriber, heard) {
+            Ok(engine) => of_input(run_events(alloc, style, engine, events, writer)),
+            Err(_) => unread(Ending::Memory, None, events),
+        },
         Err((fault, blocks)) => match fault {
             SubscribeFault::SameBlockTwice(position) => {
                 let blocks = blocks.as_slice();

@@ -8,13 +8,11 @@ ghost use Rattle.pdu_core.specs.SampledViews.{asdu_of, asdus_left};
 ghost use Rattle.block_core.specs.Period.{IsPeriod};
 ghost use Rattle.subscribe_core.specs.computed.WatchAnswers.{seen_all};
 ghost use Rattle.engine_core.specs.Ending.{is_write_fault};
-ghost use Rattle.list_core.specs.ItemReader.{item_state};
 ghost use Rattle.engine_core.proofs.EventSteps.{exactly_agrees};
-ghost use Rattle.engine_core.specs.EngineText.{exactly};
 ghost use Rattle.engine_core.specs.EventsText.{exactly_each, exactly_event, fault_text, over_in};
 ghost use Rattle.engine_core.specs.Input.{reader_of};
-ghost use Rattle.engine_core.specs.Run.{WritesSome, list_input};
-ghost use Rattle.engine_core.specs.RunOver.{Leaves, OfKind, RunsOver};
+ghost use Rattle.engine_core.specs.Run.{WritesSome};
+ghost use Rattle.engine_core.specs.RunOver.{OfKind, RunsOver};
 ghost use Rattle.text_core.specs.Pieces.{AppendsText};
 ghost use Rattle.exchange_engines.specs.WatchText.{AreWatchTexts, IsWatchText, counts, counts_of, is_unexpected as unexpected, sample_at, samples_from, samples_of, watched};
 ghost use Rattle.exchange_engines.specs.computed.WatchStep.{SamplesAppended, last_of, telling_at, watch_event};
@@ -22,12 +20,9 @@ ghost use Rattle.exchange_engines.specs.computed.WatchStep.{SamplesAppended, las
 use crate::texts::sample::put_sample_line;
 use crate::texts::sample_object::put_sample_object;
 use ber_core::Fault;
-use engine_core::{Ending, EventEngine, OfEvents, Stopped, Style, run_over, run_to_stop};
+use engine_core::{Ending, EventEngine, Stopped, Style, run_events};
 use frame_core::{ApduView, view_frame};
-use list_core::{
-    Event, EventKind, EventLines, InputFault, ItemFault, ItemReader, ListCause, ReadItems, Sink,
-    Source,
-};
+use list_core::{Event, EventKind, EventLines, InputFault, ItemReader, ReadItems, Sink, Source};
 use object_core::event::put_fault_object;
 use object_core::{Form, Heading, LastObject};
 use pdu_core::{AsduView, SvView};
@@ -229,47 +224,14 @@ pub fn watch<A: Allocator + Copy, R: Source, W: Sink>(
     ensures read_fault { result.0 ≡ Ending.ReadFault → R.ending result.1 ≡ InputEnd.Failed }
     ensures fault { W.failed writer.new ≡ is_write_fault result.0 }
 {
-    watch_to_stop(alloc, reader, period, id, writer).into_source()
-}
-
-/// As `watch`, and hands out the fault by which it ended, and the reader of the events.
-#[inline(never)]
-pub fn watch_to_stop<A: Allocator + Copy, R: Source, W: Sink>(
-    alloc: A,
-    reader: R,
-    period: u32,
-    id: &[u8],
-    writer: &mut W,
-) -> Stopped<ItemReader<R, EventLines>, ItemFault<ListCause>>
-    requires open { R.ending reader ≡ InputEnd.Open }
-    requires works { W.failed writer.old ≡ false }
-    requires period { IsPeriod period }
-    ensures text { (given : List ℕ) × GivesOctets (R.left reader) (item_state R.left R.ending result.reader).left given
-        × OfKind (IsWatchText {A = A} period id.now) (λ t. Leaves (list_input event_rules First) (exactly t) result.ending result.fault (item_state R.left R.ending result.reader).ending
-        given (W.contents writer.old) (W.contents writer.new)) }
-    ensures read_fault { result.ending ≡ Ending.ReadFault → (item_state R.left R.ending result.reader).ending ≡ InputEnd.Failed }
-    ensures fault { W.failed writer.new ≡ is_write_fault result.ending }
-{
-    match Watch::new(period) {
-        Ok(watch) => run_to_stop(
-            alloc,
-            EventLines::First,
-            OfEvents {
-                engine: Watching { watch, id },
-                style: Style::Lines(Form::Text),
-                undated: Vec::new(alloc),
-            },
-            b"",
-            reader,
-            writer,
-        ),
-        // The period is in range.
-        Err(_) => unreachable!(),
-    }
+    let events = ItemReader::new(reader, EventLines::First);
+    let style = Style::Lines(Form::Text);
+    watch_over(alloc, style, events, period, id, writer).into_source()
 }
 
 /// As `watch`, over any reader of events, in a style: the last line is that of the input's fault. Hands out the fault by which it
 /// ended, and the reader of the events.
+#[inline(always)]
 pub fn watch_over<
     A: Allocator + Copy,
     F: InputFault + LastLine + LastObject + Drop,
@@ -283,15 +245,7 @@ pub fn watch_over<
     ensures fault { W.failed writer.new ≡ is_write_fault result.ending }
 {
     match Watch::new(period) {
-        Ok(watch) => {
-            let engine = Watching { watch, id };
-            let engine = OfEvents {
-                engine,
-                style,
-                undated: Vec::new(alloc),
-            };
-            run_over(alloc, engine, b"", events, writer)
-        }
+        Ok(watch) => run_events(alloc, style, Watching { watch, id }, events, writer),
         // The period is in range.
         Err(_) => unreachable!(),
     }

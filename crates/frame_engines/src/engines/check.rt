@@ -13,24 +13,19 @@ ghost use Rattle.frame_engines.specs.CheckObject.{check_event_in, notes_in};
 ghost use Rattle.frame_engines.specs.CheckText.{check_text, goes_where_recommended, has_text, is_form};
 ghost use Rattle.frame_engines.specs.computed.InForm.{frame_notes_in, note_end, note_in, note_kind, octets_notes_in};
 ghost use Rattle.engine_core.specs.Ending.{is_write_fault};
-ghost use Rattle.list_core.specs.ItemReader.{item_state};
 ghost use Rattle.engine_core.proofs.EventSteps.{exactly_agrees};
 ghost use Rattle.engine_core.specs.EventsText.{exactly_event, fault_text, over_in};
-ghost use Rattle.engine_core.specs.Run.{Writes, list_input};
-ghost use Rattle.engine_core.specs.EngineText.{exactly};
+ghost use Rattle.engine_core.specs.Run.{Writes};
 ghost use Rattle.engine_core.specs.Input.{reader_of};
-ghost use Rattle.engine_core.specs.RunOver.{Leaves, RunsOver};
+ghost use Rattle.engine_core.specs.RunOver.{RunsOver};
 ghost use Rattle.frame_engines.specs.WrittenForm.{fitting_form};
 
 use arrayvec::ArrayVec;
 use ber_core::Fault;
 use byteorder::{BigEndian, ByteOrder};
-use engine_core::{Ending, EventEngine, OfEvents, Stopped, Style, run_over, run_to_stop};
+use engine_core::{Ending, EventEngine, Stopped, Style, run_events};
 use frame_core::{ApduView, FrameView, encode_view, see_frame, written_length};
-use list_core::{
-    Event, EventKind, EventLines, InputFault, ItemFault, ItemReader, ListCause, ReadItems, Sink,
-    Source,
-};
+use list_core::{Event, EventKind, EventLines, InputFault, ItemReader, ReadItems, Sink, Source};
 use object_core::event::{put_event_object, put_fault_object};
 use object_core::{Form, LastObject};
 use std::alloc::{AllocError, Allocator};
@@ -292,33 +287,13 @@ pub fn check<A: Allocator + Copy, R: Source, W: Sink>(
     ensures read_fault { result.0 ≡ Ending.ReadFault → R.ending result.1 ≡ InputEnd.Failed }
     ensures fault { W.failed writer.new ≡ is_write_fault result.0 }
 {
-    check_to_stop(alloc, reader, writer).into_source()
-}
-
-/// As `check`, and hands out the fault by which it ended, and the reader of the events.
-#[inline(never)]
-pub fn check_to_stop<A: Allocator + Copy, R: Source, W: Sink>(
-    alloc: A,
-    reader: R,
-    writer: &mut W,
-) -> Stopped<ItemReader<R, EventLines>, ItemFault<ListCause>>
-    requires open { R.ending reader ≡ InputEnd.Open }
-    requires works { W.failed writer.old ≡ false }
-    ensures text { (given : List ℕ) × GivesOctets (R.left reader) (item_state R.left R.ending result.reader).left given
-        × Leaves (list_input event_rules First) (exactly (check_text {A = A})) result.ending result.fault (item_state R.left R.ending result.reader).ending given (W.contents writer.old) (W.contents writer.new) }
-    ensures read_fault { result.ending ≡ Ending.ReadFault → (item_state R.left R.ending result.reader).ending ≡ InputEnd.Failed }
-    ensures fault { W.failed writer.new ≡ is_write_fault result.ending }
-{
-    let engine = OfEvents {
-        engine: CheckText,
-        style: Style::Lines(Form::Text),
-        undated: Vec::new(alloc),
-    };
-    run_to_stop(alloc, EventLines::First, engine, b"", reader, writer)
+    let events = ItemReader::new(reader, EventLines::First);
+    check_over(alloc, Style::Lines(Form::Text), events, writer).into_source()
 }
 
 /// As `check`, over any reader of events, in a style: the last line is that of the input's fault. Hands out the fault by which it
 /// ended, and the reader of the events.
+#[inline(always)]
 pub fn check_over<
     A: Allocator + Copy,
     F: InputFault + LastLine + LastObject + Drop,
@@ -330,10 +305,5 @@ pub fn check_over<
         events result (W.contents writer.old) (W.contents writer.new) }
     ensures fault { W.failed writer.new ≡ is_write_fault result.ending }
 {
-    let engine = OfEvents {
-        engine: CheckText,
-        style,
-        undated: Vec::new(alloc),
-    };
-    run_over(alloc, engine, b"", events, writer)
+    run_events(alloc, style, CheckText, events, writer)
 }

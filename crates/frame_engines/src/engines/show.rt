@@ -8,12 +8,10 @@ ghost use Rattle.list_core.specs.declared.event_lines.EventLines.TheVariants.{Fi
 ghost use Rattle.list_core.specs.declared.device.InputEnd.{InputEnd};
 ghost use Rattle.list_core.specs.Device.{GivesOctets};
 ghost use Rattle.engine_core.specs.Ending.{is_write_fault};
-ghost use Rattle.list_core.specs.ItemReader.{item_state};
 ghost use Rattle.engine_core.specs.EventsText.{exactly_event, fault_text, over_in};
-ghost use Rattle.engine_core.specs.Run.{Writes, list_input};
-ghost use Rattle.engine_core.specs.EngineText.{exactly};
+ghost use Rattle.engine_core.specs.Run.{Writes};
 ghost use Rattle.engine_core.specs.Input.{reader_of};
-ghost use Rattle.engine_core.specs.RunOver.{Leaves, RunsOver};
+ghost use Rattle.engine_core.specs.RunOver.{RunsOver};
 ghost use Rattle.text_core.specs.Pieces.{AppendsText};
 ghost use Rattle.frame_core.specs.computed.FrameReading.{frame_at};
 ghost use Rattle.object_core.specs.Objects.{AppendsSome};
@@ -25,12 +23,9 @@ ghost use Rattle.frame_engines.specs.computed.InForm.{IsAnswerIn, IsKindIn};
 use crate::texts::frame::put_frame_line;
 use crate::texts::frame_object::put_frame_object;
 use ber_core::Fault;
-use engine_core::{Ending, EventEngine, OfEvents, Stopped, Style, run_over, run_to_stop};
+use engine_core::{Ending, EventEngine, Stopped, Style, run_events};
 use frame_core::view_frame;
-use list_core::{
-    Event, EventKind, EventLines, InputFault, ItemFault, ItemReader, ListCause, ReadItems, Sink,
-    Source,
-};
+use list_core::{Event, EventKind, EventLines, InputFault, ItemReader, ReadItems, Sink, Source};
 use object_core::event::{put_event_head, put_event_object, put_fault_object};
 use object_core::fields::put_field_word;
 use object_core::{Counted, Form, LastObject};
@@ -230,33 +225,13 @@ pub fn show<A: Allocator + Copy, R: Source, W: Sink>(
     ensures read_fault { result.0 ≡ Ending.ReadFault → R.ending result.1 ≡ InputEnd.Failed }
     ensures fault { W.failed writer.new ≡ is_write_fault result.0 }
 {
-    show_to_stop(alloc, reader, writer).into_source()
-}
-
-/// As `show`, and hands out the fault by which it ended, and the reader of the events.
-#[inline(never)]
-pub fn show_to_stop<A: Allocator + Copy, R: Source, W: Sink>(
-    alloc: A,
-    reader: R,
-    writer: &mut W,
-) -> Stopped<ItemReader<R, EventLines>, ItemFault<ListCause>>
-    requires open { R.ending reader ≡ InputEnd.Open }
-    requires works { W.failed writer.old ≡ false }
-    ensures text { (given : List ℕ) × GivesOctets (R.left reader) (item_state R.left R.ending result.reader).left given
-        × Leaves (list_input event_rules First) (exactly (show_text {A = A})) result.ending result.fault (item_state R.left R.ending result.reader).ending given (W.contents writer.old) (W.contents writer.new) }
-    ensures read_fault { result.ending ≡ Ending.ReadFault → (item_state R.left R.ending result.reader).ending ≡ InputEnd.Failed }
-    ensures fault { W.failed writer.new ≡ is_write_fault result.ending }
-{
-    let engine = OfEvents {
-        engine: ShowText,
-        style: Style::Lines(Form::Text),
-        undated: Vec::new(alloc),
-    };
-    run_to_stop(alloc, EventLines::First, engine, b"", reader, writer)
+    let events = ItemReader::new(reader, EventLines::First);
+    show_over(alloc, Style::Lines(Form::Text), events, writer).into_source()
 }
 
 /// As `show`, over any reader of events, in a style, as text or as objects: the last line is that of the input's fault. Hands out the fault by which it
 /// ended, and the reader of the events.
+#[inline(always)]
 pub fn show_over<
     A: Allocator + Copy,
     F: InputFault + LastLine + LastObject + Drop,
@@ -267,10 +242,5 @@ pub fn show_over<
     ensures text { RunsOver (reader_of I.answers I.number F.refused F.failed) (over_in style (show_allows {A = A}) (fault_text F.last_line F.last_object)) events result (W.contents writer.old) (W.contents writer.new) }
     ensures fault { W.failed writer.new ≡ is_write_fault result.ending }
 {
-    let engine = OfEvents {
-        engine: ShowText,
-        style,
-        undated: Vec::new(alloc),
-    };
-    run_over(alloc, engine, b"", events, writer)
+    run_events(alloc, style, ShowText, events, writer)
 }

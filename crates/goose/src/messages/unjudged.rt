@@ -33,6 +33,6 @@ impl fmt::Display for UnjudgedStreams<'_> {
         if unjudged.has_more() {
             write!(f, "{before}..")?;
         }
-        f.write_str("): give --period N")
+        f.write_str("): give --period N or --period ID=N")
     }
 }

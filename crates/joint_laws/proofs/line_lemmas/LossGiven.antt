@@ -46,9 +46,10 @@ use Rattle.loss_core.specs.declared.finding.Finding.{Finding}
 use Rattle.loss_core.specs.declared.finding.Finding.TheVariants.{Silent, StatesMissing, FramesMissing, Late, Restarted, SamplesMissing, SampleRepeated, SampleLate, OutOfRange, Synch}
 use Rattle.loss_core.specs.Findings.{came_told, count_told, first_missing, frame_findings, frames_told, silence, standing_told, states_told, synch_told}
 use Rattle.loss_engine.specs.LossText.{with_end}
-use Rattle.loss_engine.specs.Sights.{Key, Shown, Sight, frame, sample, sender, stream, same_key, sight_of_asdu, sights_of, sights_read, sights_with}
-use Rattle.loss_engine.specs.computed.Entries.{IsPeriodOf}
-use Rattle.loss_engine.specs.computed.Tracking.{Progress, Tracked, frames, samples, counted, came_by, came_in, findings_by, first_progress, known_of, more_progress, sender_of, silent_since, stale_newest, synch_of, track, with_progress}
+use Rattle.loss_engine.specs.Sights.{Key, Shown, Sight, frame, period_for, sample, sender, stream, same_key, sight_of_asdu, sights_of, sights_read, sights_with}
+use Rattle.loss_core.specs.Periods.{ArePeriods, IsPeriodOf, Period}
+use Rattle.loss_engine.proofs.Stands.{in_range}
+use Rattle.loss_engine.specs.computed.Tracking.{Progress, Tracked, frames, samples, counted, came_in, findings_by, first_progress, known_of, more_progress, sender_of, silent_since, stale_newest, synch_of, track, with_progress}
 use Rattle.joint_laws.specs.Given.{IsGivenKind, IsWide}
 use Rattle.joint_laws.proofs.line_lemmas.SpokenLines.{all_both}
 use Rattle.joint_laws.proofs.line_lemmas.Spelled.{frame_held}
@@ -379,22 +380,19 @@ with_small (x ∷ xs) key first more small given begins goes = go (same_key x.ke
     go false rest = (small.0, rest)
 
 -- after one sight more
-pub track_small : (period : Option ℕ) (xs : List Tracked) (s : Sight) → IsPeriodOf period → AllByRecursion IsSmallTracked xs → IsGivenSight s → AllByRecursion IsSmallTracked (track period xs s)
-track_small period xs s is small given =
-    with_small xs s.key (first_progress period s.moment s.shown) (more_progress s.moment s.shown) small given.key (first_small period s.moment s.shown s.key is given.moment given.shown)
+pub track_small : (periods : List Period) (xs : List Tracked) (s : Sight) → ArePeriods periods → AllByRecursion IsSmallTracked xs → IsGivenSight s → AllByRecursion IsSmallTracked (track periods xs s)
+track_small periods xs s are small given =
+    with_small xs s.key (first_progress (period_for periods s.key) s.moment s.shown) (more_progress s.moment s.shown) small given.key (first_small (period_for periods s.key) s.moment s.shown s.key (in_range periods s.key are) given.moment given.shown)
     (λ known h. more_small s.moment s.shown s.key known given.moment given.shown h)
 
 -- ---- what a sight tells by what is kept
 
-came_by_small : (period : ℕ) (known : Option Progress) (s : Sample) → period ≤ 65536 → IsWide s.moment → IfSome known IsSmallProgress → IsSmallCame (came_by period known s)
-came_by_small period None s few wide small = came_small period None s few wide
-came_by_small period (Some (frames t)) s few wide small = came_small period None s few wide
-came_by_small period (Some (samples u z)) s few wide small = came_small u.stream.period u.stream.newest s small.0 wide
-came_by_small period (Some (counted n z)) s few wide small = came_small period None s few wide
-
 came_in_small : (period : Option ℕ) (known : Option Progress) (s : Sample) → IsPeriodOf period → IsWide s.moment → IfSome known IsSmallProgress → IfSome (came_in period known s) IsSmallCame
-came_in_small None known s is wide small = tt
-came_in_small (Some period) known s is wide small = came_by_small period known s (is period refl).1 wide small
+came_in_small None None s is wide small = tt
+came_in_small (Some period) None s is wide small = came_small period None s (is period refl).1 wide
+came_in_small period (Some (frames t)) s is wide small = tt
+came_in_small period (Some (samples u z)) s is wide small = came_small u.stream.period u.stream.newest s small.0 wide
+came_in_small period (Some (counted n z)) s is wide small = tt
 
 synch_by_small : (known : Option Progress) → IfSome known IsSmallProgress → IfSome (synch_of known) IsWide
 synch_by_small None small = tt

@@ -1,5 +1,5 @@
 -- What `losses` writes of an input, as objects and as text.
-use Rattle.std.proofs.Common.{◌≡◌, ℕ, zero, suc, ◌-◌, ◌<◌, ◌≤◌, max, Bool, true, false, List, [], ◌∷◌, ◌++◌, length, map, Option, Some, None, ap, refl, subst, arith}
+use Rattle.std.proofs.Common.{◌≡◌, ℕ, zero, suc, ◌-◌, max, Bool, true, false, List, [], ◌∷◌, ◌++◌, length, map, Some, ap, refl, subst, arith}
 use Rattle.std.specs.Prelude.{IfSome, slice_get}
 use Rattle.std.specs.List.{AllByRecursion, flat_map}
 use Rattle.std.proofs.lemmas.Option.{none-some, same_Some}
@@ -13,16 +13,17 @@ use Rattle.engine_core.specs.declared.style.Style.TheVariants.{Lines}
 use Rattle.engine_core.specs.EngineText.{ItemText}
 use Rattle.loss_core.specs.declared.finding.Finding.{Finding}
 use Rattle.loss_engine.specs.LossText.{AreLosses, closing_in, end_silent, sight_lines, told_line}
-use Rattle.loss_engine.specs.Sights.{Key, Sight}
+use Rattle.loss_engine.specs.Sights.{Key, Sight, period_for}
 use Rattle.loss_engine.specs.TimeBack.{is_far_below}
-use Rattle.loss_engine.specs.computed.Entries.{IsPeriodOf}
+use Rattle.loss_core.specs.Periods.{ArePeriods, Period}
 use Rattle.loss_engine.specs.computed.Tracking.{Kept, Tracked, back_by, back_where, closing_by, closing_pieces, findings_all, findings_by, keep, keep_all, kept_none, known_of, numbered_all, pieces_by, pieces_of, sights_by, silences_by, silent_since, total_by, totals_by, track, track_all}
 use Rattle.loss_engine.proofs.LossLaws.{losses_are}
 use Rattle.loss_engine.proofs.LossesOnce.{losses_once}
-use Rattle.joint_laws.specs.Given.{IsGiven, IsGivenPeriod, IsWide}
+use Rattle.joint_laws.specs.Given.{IsGiven, IsWide}
 use Rattle.joint_laws.specs.JsonLines.{AreJsonLines, LossesAreJson, TextsAreJson, written_of}
 use Rattle.joint_laws.specs.LinesBack.{GivesLosses, GivesTexts}
 use Rattle.joint_laws.proofs.line_lemmas.LineSaid.{back}
+use Rattle.loss_engine.proofs.Stands.{in_range}
 use Rattle.joint_laws.proofs.line_lemmas.LossGiven.{AreSmall, IsGivenKey, IsGivenSight, IsSmallTracked, findings_small, known_small, sights_given, silent_upto, track_small}
 use Rattle.joint_laws.proofs.line_lemmas.LossLineSaid.{SayPiece, say_back, say_finding, say_silence, say_total}
 use Rattle.joint_laws.proofs.line_lemmas.SpokenLines.{Say, found_joined, say_both, say_joined, say_none}
@@ -34,17 +35,17 @@ findings_say : (c : Counted) (n moment : ℕ) (key : Key) (fs : List Finding) �
 findings_say c n moment key [] wide past given small = say_none
 findings_say c n moment key (f ∷ fs) wide past given small = say_both _ _ _ _ (say_finding c n moment key f wide past given small.0) (findings_say c n moment key fs wide past given small.1)
 
-sights_say : (c : Counted) (n moment : ℕ) (period : Option ℕ) (xs : List Tracked) (seen : List Sight) → IsPeriodOf period → IsWide n → IsWide moment → AllByRecursion IsSmallTracked xs → AllByRecursion IsGivenSight seen
-    → Say (sight_lines (forms.Object c) n moment seen (findings_all period xs seen)) (sight_lines forms.Text n moment seen (findings_all period xs seen))
-sights_say c n moment period xs [] is wide past small given = say_none
-sights_say c n moment period xs (s ∷ seen) is wide past small given =
-    let told = findings_small period (known_of xs s.key) s.key s.moment s.shown is (known_small xs s.key small) given.0.moment given.0.shown in
-    say_both _ _ _ _ (findings_say c n moment s.key (findings_by period (known_of xs s.key) s.moment s.shown) wide past given.0.key told)
-    (sights_say c n moment period (track period xs s) seen is wide past (track_small period xs s is small given.0) given.1)
+sights_say : (c : Counted) (n moment : ℕ) (periods : List Period) (xs : List Tracked) (seen : List Sight) → ArePeriods periods → IsWide n → IsWide moment → AllByRecursion IsSmallTracked xs → AllByRecursion IsGivenSight seen
+    → Say (sight_lines (forms.Object c) n moment seen (findings_all periods xs seen)) (sight_lines forms.Text n moment seen (findings_all periods xs seen))
+sights_say c n moment periods xs [] is wide past small given = say_none
+sights_say c n moment periods xs (s ∷ seen) is wide past small given =
+    let told = findings_small (period_for periods s.key) (known_of xs s.key) s.key s.moment s.shown (in_range periods s.key is) (known_small xs s.key small) given.0.moment given.0.shown in
+    say_both _ _ _ _ (findings_say c n moment s.key (findings_by (period_for periods s.key) (known_of xs s.key) s.moment s.shown) wide past given.0.key told)
+    (sights_say c n moment periods (track periods xs s) seen is wide past (track_small periods xs s is small given.0) given.1)
 
-all_track_small : (period : Option ℕ) (xs : List Tracked) (seen : List Sight) → IsPeriodOf period → AllByRecursion IsSmallTracked xs → AllByRecursion IsGivenSight seen → AllByRecursion IsSmallTracked (track_all period xs seen)
-all_track_small period xs [] is small given = small
-all_track_small period xs (s ∷ seen) is small given = all_track_small period (track period xs s) seen is (track_small period xs s is small given.0) given.1
+all_track_small : (periods : List Period) (xs : List Tracked) (seen : List Sight) → ArePeriods periods → AllByRecursion IsSmallTracked xs → AllByRecursion IsGivenSight seen → AllByRecursion IsSmallTracked (track_all periods xs seen)
+all_track_small periods xs [] is small given = small
+all_track_small periods xs (s ∷ seen) is small given = all_track_small periods (track periods xs s) seen is (track_small periods xs s is small given.0) given.1
 
 -- ---- events
 
@@ -68,12 +69,12 @@ none_small = record { moment = omega arith; each = tt }
 event_sights : {A : Type 0} (k : Kept) (e : ℕ × Event A) → IsSmallKept k → IsGiven e → AllByRecursion IsGivenSight (sights_by k e.1)
 event_sights k e small given = sights_given (max k.moment e.1.moment) e.1.kind (omega (arith, small.moment, given.moment)) given.kind
 
-keep_small : {A : Type 0} (period : Option ℕ) (k : Kept) (e : ℕ × Event A) → IsPeriodOf period → IsSmallKept k → IsGiven e → IsSmallKept (keep period k e.1)
-keep_small period k e is small given = record { moment = omega (arith, small.moment, given.moment); each = all_track_small period k.tracked (sights_by k e.1) is small.each (event_sights k e small given) }
+keep_small : {A : Type 0} (periods : List Period) (k : Kept) (e : ℕ × Event A) → ArePeriods periods → IsSmallKept k → IsGiven e → IsSmallKept (keep periods k e.1)
+keep_small periods k e is small given = record { moment = omega (arith, small.moment, given.moment); each = all_track_small periods k.tracked (sights_by k e.1) is small.each (event_sights k e small given) }
 
-all_kept_small : {A : Type 0} (period : Option ℕ) (k : Kept) (items : List (ℕ × Event A)) → IsPeriodOf period → IsSmallKept k → AllByRecursion IsGiven items → IsSmallKept (keep_all period k items)
-all_kept_small period k [] is small given = small
-all_kept_small period k (e ∷ items) is small given = all_kept_small period (keep period k e.1) items is (keep_small period k e is small given.0) given.1
+all_kept_small : {A : Type 0} (periods : List Period) (k : Kept) (items : List (ℕ × Event A)) → ArePeriods periods → IsSmallKept k → AllByRecursion IsGiven items → IsSmallKept (keep_all periods k items)
+all_kept_small periods k [] is small given = small
+all_kept_small periods k (e ∷ items) is small given = all_kept_small periods (keep periods k e.1) items is (keep_small periods k e is small given.0) given.1
 
 -- pieces say the same as objects and as lines, each in its place
 abbrev AreSaid : List ItemText → List ItemText → Type 0
@@ -92,16 +93,16 @@ abbrev piece_text : ℕ × ItemText → ItemText
 piece_text w = w.1
 
 -- the pieces of events, and those behind them
-events_then : {A : Type 0} (c : Counted) (period : Option ℕ) (k : Kept) (items : List (ℕ × Event A)) (os ls : List (ℕ × ItemText)) → IsPeriodOf period → IsSmallKept k → AllByRecursion IsGiven items
-    → AreSaid (map piece_text os) (map piece_text ls) → AreSaid (map piece_text (pieces_by period (Lines (forms.Object c)) k items ++ os)) (map piece_text (pieces_by period (Lines forms.Text) k items ++ ls))
-events_then c period k [] os ls is small given rest = rest
-events_then c period k (e ∷ items) os ls is small given rest = (
+events_then : {A : Type 0} (c : Counted) (periods : List Period) (k : Kept) (items : List (ℕ × Event A)) (os ls : List (ℕ × ItemText)) → ArePeriods periods → IsSmallKept k → AllByRecursion IsGiven items
+    → AreSaid (map piece_text os) (map piece_text ls) → AreSaid (map piece_text (pieces_by periods (Lines (forms.Object c)) k items ++ os)) (map piece_text (pieces_by periods (Lines forms.Text) k items ++ ls))
+events_then c periods k [] os ls is small given rest = rest
+events_then c periods k (e ∷ items) os ls is small given rest = (
   (
     say_both _ _ _ _ (say_back c e.0 e.1.moment (back_by k e.1.moment) given.0.number given.0.moment (back_small k e.1.moment small.moment))
-        (sights_say c e.0 e.1.moment period k.tracked (sights_by k e.1) is given.0.number given.0.moment small.each (event_sights k e small given.0)),
+        (sights_say c e.0 e.1.moment periods k.tracked (sights_by k e.1) is given.0.number given.0.moment small.each (event_sights k e small given.0)),
     refl,
   ),
-  events_then c period (keep period k e.1) items os ls is (keep_small period k e is small given.0) given.1 rest,
+  events_then c periods (keep periods k e.1) items os ls is (keep_small periods k e is small given.0) given.1 rest,
 )
 
 -- ---- the end of the input
@@ -132,16 +133,16 @@ closing_said c (faulty f) n k small = tt
 -- ---- the input
 
 -- what is computed of it
-computed_said : {A F : Type 0} (c : Counted) (period : Option ℕ) (said : Numbered (Event A) F) → IsPeriodOf period → AllByRecursion IsGiven said.items
-    → AreSaid (written_of (pieces_of period (Lines (forms.Object c)) 0 said)) (written_of (pieces_of period (Lines forms.Text) 0 said))
-computed_said c period said is given =
-    let end = keep_all period kept_none said.items in
-    events_then c period kept_none said.items (closing_pieces (Lines (forms.Object c)) said.stop 0 end) (closing_pieces (Lines forms.Text) said.stop 0 end) is none_small given
-    (closing_said c said.stop 0 end (all_kept_small period kept_none said.items is none_small given))
+computed_said : {A F : Type 0} (c : Counted) (periods : List Period) (said : Numbered (Event A) F) → ArePeriods periods → AllByRecursion IsGiven said.items
+    → AreSaid (written_of (pieces_of periods (Lines (forms.Object c)) 0 said)) (written_of (pieces_of periods (Lines forms.Text) 0 said))
+computed_said c periods said is given =
+    let end = keep_all periods kept_none said.items in
+    events_then c periods kept_none said.items (closing_pieces (Lines (forms.Object c)) said.stop 0 end) (closing_pieces (Lines forms.Text) said.stop 0 end) is none_small given
+    (closing_said c said.stop 0 end (all_kept_small periods kept_none said.items is none_small given))
 
 -- what is defined is that
-defined_so : {A F : Type 0} (period : Option ℕ) (form : Form) (said : Numbered (Event A) F) (pieces : Numbered ItemText F) → IsPeriodOf period → AreLosses period (Lines form) said pieces → written_of (pieces_of period (Lines form) 0 said) ≡ written_of pieces
-defined_so period form said pieces is are = (losses_once period (Lines form) said (pieces_of period (Lines form) 0 said) pieces (losses_are period (Lines form) 0 said is) are).texts
+defined_so : {A F : Type 0} (periods : List Period) (form : Form) (said : Numbered (Event A) F) (pieces : Numbered ItemText F) → ArePeriods periods → AreLosses periods (Lines form) said pieces → written_of (pieces_of periods (Lines form) 0 said) ≡ written_of pieces
+defined_so periods form said pieces is are = (losses_once periods (Lines form) said (pieces_of periods (Lines form) 0 said) pieces (losses_are periods (Lines form) 0 said is) are).texts
 
 -- each in its place, of which there are as many
 said_sizes : (os ls : List ItemText) → AreSaid os ls → length os ≡ length ls
@@ -173,20 +174,13 @@ texts_given os ls said =
       together = ((say_joined os ls size (λ i o l p q. (said_at os ls said i o l p q).0)).in_front, found_joined os ls size (λ i o l p q. (said_at os ls said i o l p q).1));
     }
 
--- a period that is given is what `losses` wants
-in_range : (period : Option ℕ) → IsGivenPeriod period → IsPeriodOf period
-in_range None given n e = absurd (none-some n e)
-in_range (Some period) given n e = subst (λ k. (0 < k) × (k ≤ 65536)) (same_Some period n e) (omega (arith, given.0), given.1)
-
 pub losses_is_json : {A F : Type 0} → LossesAreJson A F
-losses_is_json period c said pieces some given are =
-    let is = in_range period some in
-    subst TextsAreJson (defined_so period (forms.Object c) said pieces is are)
-    (texts_json (written_of (pieces_of period (Lines (forms.Object c)) 0 said)) (written_of (pieces_of period (Lines forms.Text) 0 said)) (computed_said c period said is given))
+losses_is_json periods c said pieces is given are =
+    subst TextsAreJson (defined_so periods (forms.Object c) said pieces is are)
+    (texts_json (written_of (pieces_of periods (Lines (forms.Object c)) 0 said)) (written_of (pieces_of periods (Lines forms.Text) 0 said)) (computed_said c periods said is given))
 
 pub losses_says : {A F : Type 0} → GivesLosses A F back
-losses_says period c said objects lines some given are also =
-    let is = in_range period some in
-    subst (λ os. GivesTexts back os (written_of lines)) (defined_so period (forms.Object c) said objects is are)
-    (subst (GivesTexts back (written_of (pieces_of period (Lines (forms.Object c)) 0 said))) (defined_so period forms.Text said lines is also)
-    (texts_given (written_of (pieces_of period (Lines (forms.Object c)) 0 said)) (written_of (pieces_of period (Lines forms.Text) 0 said)) (computed_said c period said is given)))
+losses_says periods c said objects lines is given are also =
+    subst (λ os. GivesTexts back os (written_of lines)) (defined_so periods (forms.Object c) said objects is are)
+    (subst (GivesTexts back (written_of (pieces_of periods (Lines (forms.Object c)) 0 said))) (defined_so periods forms.Text said lines is also)
+    (texts_given (written_of (pieces_of periods (Lines (forms.Object c)) 0 said)) (written_of (pieces_of periods (Lines forms.Text) 0 said)) (computed_said c periods said is given)))

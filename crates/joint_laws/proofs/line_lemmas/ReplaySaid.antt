@@ -1,5 +1,5 @@
 -- What `replay` writes, as objects and as text.
-use Rattle.std.proofs.Common.{◌≡◌, ℕ, zero, suc, ◌+◌, ◌<◌, ◌≤◌, Bool, List, [], ◌∷◌, ◌++◌, length, Option, Some, None, ap, sym, subst, arith, inl, inr, refl, ◌∙◌}
+use Rattle.std.proofs.Common.{◌≡◌, ℕ, zero, suc, ◌+◌, ◌<◌, ◌≤◌, Bool, true, false, List, [], ◌∷◌, ◌++◌, length, Option, Some, None, ap, sym, subst, arith, inl, inr, refl, ◌∙◌}
 use Rattle.std.specs.Prelude.{slice_get}
 use Rattle.std.specs.List.{AllByRecursion}
 use Rattle.std.proofs.lemmas.Option.{same_Some}
@@ -14,6 +14,7 @@ use Rattle.frame_core.specs.Written.{ApduIsSpellable}
 use Rattle.frame_core.specs.declared.frame.Apdu.{Apdu}
 use Rattle.frame_core.proofs.ReadingLaws.{frame_wrong_again}
 use Rattle.frame_core.proofs.SpelledSpellable.{frame_spellable}
+use Rattle.subscribe_core.specs.Changes.{changes, is_change}
 use Rattle.subscribe_core.specs.Entries.{AreEntriesAt, AreOfContent, AreOfEach}
 use Rattle.subscribe_core.specs.EventsRead.{AreRead, Content, EventRead, FrameRead, IsContent, IsRead, OfClock, OfFault, OfGoose, OfMode, OfSampled}
 use Rattle.subscribe_core.specs.FrameEntry.{IsBlockEntry, IsFrameEntry, entry_of, reason_at}
@@ -22,7 +23,8 @@ use Rattle.subscribe_core.specs.declared.entry.Entry.TheVariants as says
 use Rattle.subscribe_core.specs.declared.entry.Reason.{Reason}
 use Rattle.subscribe_core.specs.declared.registers.Verdict.{Verdict}
 use Rattle.subscribe_core.specs.declared.registers.Verdict.TheVariants.{Act, Older, Refreshed, Repeated}
-use Rattle.exchange_engines.specs.ReplayText.{AreSaid, Says, entries_in, events_of}
+use Rattle.exchange_engines.specs.declared.engines.replay.ReplayManner.{ReplayManner}
+use Rattle.exchange_engines.specs.ReplayText.{AreTold, Says, entries_in, events_of, opening, told_of}
 use Rattle.joint_laws.specs.Given.{AreGivenBlocks, IsGivenKind, IsWide}
 use Rattle.joint_laws.specs.JsonLines.{EventsAreJson, ReplayIsJson}
 use Rattle.joint_laws.proofs.line_lemmas.EntrySaid.{IsGivenEntry, entries_say}
@@ -115,18 +117,37 @@ said_given blocks es e entries given (readings, read, at) =
     let said = content_given blocks readings (length es) at.event.content at.said content at.are_said in
     subst (AllByRecursion (IsGivenEntry n)) (sym at.whole) (all_both (IsGivenEntry n) at.expired (at.switched ++ at.said) expired (all_both (IsGivenEntry n) at.switched at.said switched said))
 
+-- entries that are told are among those that events have
+some_given : {A : Type 0} (n : ℕ) (entries : List (Entry A)) → AllByRecursion (IsGivenEntry n) entries → AllByRecursion (IsGivenEntry n) (changes entries)
+some_given n [] all = tt
+some_given n (x ∷ entries) all = go (is_change x) refl (some_given n entries all.1)
+  where
+    go : (b : Bool) → is_change x ≡ b → AllByRecursion (IsGivenEntry n) (changes entries) → AllByRecursion (IsGivenEntry n) (changes (x ∷ entries))
+    go true e rest = rw e (all.0, rest)
+    go false e rest = rw e rest
+
+told_given : {A : Type 0} (n : ℕ) (alone : Bool) (entries : List (Entry A)) → AllByRecursion (IsGivenEntry n) entries → AllByRecursion (IsGivenEntry n) (told_of alone entries)
+told_given n true entries all = some_given n entries all
+told_given n false entries all = all
+
+module _ {A : Type 0} (manner : ReplayManner) (blocks : List (Block A)) (say : Says A) (told : AreTold manner blocks say) where
+  say_given : (before : List (ℕ × Event A)) (e : ℕ × Event A) → IsGivenKind e.1.kind → AllByRecursion (IsGivenEntry (length blocks)) (say before e)
+  say_given before e given =
+      subst (AllByRecursion (IsGivenEntry (length blocks))) (sym (told.told before e)) (told_given (length blocks) manner.changes_alone (told.said before e)
+      (said_given blocks (opening manner.simulates ++ events_of before) e.1 (told.said before e) given (told.are_said before e)))
+
 -- ---- what is written
 
-replay_json : {A : Type 0} (blocks : List (Block A)) (say : Says A) → AreGivenBlocks blocks → AreSaid blocks say → EventsAreJson (entries_in blocks say)
-replay_json blocks say blocks_given said c before e written given is =
-    (entries_say c blocks e.0 e.1.moment (say before e) written.0 given.number given.moment blocks_given (said_given blocks (events_of before) e.1 (say before e) given.kind (said before e)) is.0).are_json
+replay_json : {A : Type 0} (manner : ReplayManner) (blocks : List (Block A)) (say : Says A) → AreGivenBlocks blocks → AreTold manner blocks say → EventsAreJson (entries_in blocks say)
+replay_json manner blocks say blocks_given told c before e written given is =
+    (entries_say c blocks e.0 e.1.moment (say before e) written.0 given.number given.moment blocks_given (say_given manner blocks say told before e given.kind) is.0).are_json
 
 pub replay_is_json : {A C F : Type 0} → ReplayIsJson A C F
-replay_is_json {A} {C} {F} blocks say blocks_given said = json_lines C F (entries_in blocks say) (replay_json blocks say blocks_given said)
+replay_is_json {A} {C} {F} manner blocks say blocks_given told = json_lines C F (entries_in blocks say) (replay_json manner blocks say blocks_given told)
 
-pub replay_says : {A : Type 0} (blocks : List (Block A)) (say : Says A) → AreGivenBlocks blocks → AreSaid blocks say → SayEach (entries_in blocks say)
-replay_says blocks say blocks_given said c before e objects lines given is also = (
+pub replay_says : {A : Type 0} (manner : ReplayManner) (blocks : List (Block A)) (say : Says A) → AreGivenBlocks blocks → AreTold manner blocks say → SayEach (entries_in blocks say)
+replay_says manner blocks say blocks_given told c before e objects lines given is also = (
   say_same _ _ _ _ refl (ap (λ (w : List ℕ × Bool). w.0) (sym also))
-      (entries_say c blocks e.0 e.1.moment (say before e) objects.0 given.number given.moment blocks_given (said_given blocks (events_of before) e.1 (say before e) given.kind (said before e)) is.0),
+      (entries_say c blocks e.0 e.1.moment (say before e) objects.0 given.number given.moment blocks_given (say_given manner blocks say told before e given.kind) is.0),
   is.1 ∙ ap (λ (w : List ℕ × Bool). w.1) also,
 )

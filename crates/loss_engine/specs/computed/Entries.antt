@@ -1,5 +1,5 @@
 -- What is held of senders and streams.
-use Rattle.std.specs.Prelude.{◌≡◌, ℕ, ◌<◌, ◌≤◌, take, slice_get, true, List, map, Option, Some, None}
+use Rattle.std.specs.Prelude.{◌≡◌, ℕ, take, slice_get, true, List, map, Option, Some, None}
 use Rattle.loss_engine.specs.declared.entry.Entry.{Entry}
 use Rattle.loss_engine.specs.declared.entry.Origin.{Origin}
 use Rattle.loss_engine.specs.declared.entry.Origin.TheVariants as origin
@@ -42,7 +42,3 @@ pub record IsFirstAt (xs : List Tracked) (key : Key) (at : ℕ) : Type 0 where
 abbrev pub Finds : List Tracked → Key → Option ℕ → Type 0
 Finds xs key None = known_of xs key ≡ None
 Finds xs key (Some at) = IsFirstAt xs key at
-
--- a period is at least 1 and at most 65,536, where one is given
-abbrev pub IsPeriodOf : Option ℕ → Type 0
-IsPeriodOf period = (n : ℕ) → period ≡ Some n → (0 < n) × (n ≤ 65536)

@@ -1,5 +1,6 @@
 -- What is kept, by what is held.
-use Rattle.std.specs.Prelude.{ℕ, Option}
+use Rattle.std.specs.Prelude.{List}
+use Rattle.loss_core.specs.Periods.{Period}
 use Rattle.loss_engine.specs.declared.losses.Losses.{Losses}
 use Rattle.loss_engine.specs.computed.Tracking.{Kept}
 
@@ -7,6 +8,6 @@ use Rattle.loss_engine.specs.computed.Tracking.{Kept}
 abbrev pub kept_by : {A : Type 0} → Losses A → Kept
 kept_by l = record { moment = l.greatest; is_back = l.is_back; tracked = l.roll }
 
--- how many samples a second streams have, where that is given
-abbrev pub period_by : {A : Type 0} → Losses A → Option ℕ
-period_by l = l.period
+-- the periods that are given
+abbrev pub periods_by : {A : Type 0} → Losses A → List Period
+periods_by l = l.periods.items

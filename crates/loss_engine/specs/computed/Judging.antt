@@ -1,10 +1,11 @@
 -- What a reader answers that judges the events of another reader.
-use Rattle.std.specs.Prelude.{◌≡◌, ◌⊎◌, ℕ, ◌+◌, ◌-◌, ◌^◌, true, [], length, slice_get, Option, Some, None, Ok, Err}
+use Rattle.std.specs.Prelude.{◌≡◌, ◌⊎◌, ℕ, ◌+◌, ◌-◌, ◌^◌, true, List, [], length, slice_get, Option, Some, None, Ok, Err}
 use Rattle.list_core.specs.declared.event.Event.{Event}
 use Rattle.list_core.specs.ReadItems.{AnswerOf}
 use Rattle.engine_core.specs.EngineText.{ItemText}
+use Rattle.loss_core.specs.Periods.{Period}
 use Rattle.loss_engine.specs.declared.losing.Losing.{Losing}
-use Rattle.loss_engine.specs.computed.Held.{kept_by, period_by}
+use Rattle.loss_engine.specs.computed.Held.{kept_by, periods_by}
 use Rattle.loss_engine.specs.computed.Tracking.{Kept, closings, keep, piece_by, shows_new, sights_by}
 
 -- the reader whose events are judged
@@ -15,9 +16,9 @@ events_of s = s.events
 abbrev pub kept_of : {I A : Type 0} → Losing I A → Kept
 kept_of s = kept_by s.losses
 
--- how many samples a second streams have, where that is given
-abbrev pub period_of : {I A : Type 0} → Losing I A → Option ℕ
-period_of s = period_by s.losses
+-- the periods that are given
+abbrev pub periods_of : {I A : Type 0} → Losing I A → List Period
+periods_of s = periods_by s.losses
 
 -- which line at the end comes next; none while events come
 abbrev pub closing_of : {I A : Type 0} → Losing I A → Option ℕ
@@ -25,7 +26,7 @@ closing_of s = s.closing
 
 -- it was set up alike
 pub record SameSetting {I A : Type 0} (old new : Losing I A) : Type 0 where
-  pub period : period_of new ≡ period_of old
+  pub periods : periods_of new ≡ periods_of old
   pub style : new.style ≡ old.style
 
 -- how many passages can still come behind this position among the lines at the end
@@ -42,12 +43,12 @@ left_of most s = left_by most (closing_of s) s
 
 -- memory is wanted for a sender or a stream of the event that is new, or for what it tells
 abbrev pub WantsNext : {I A : Type 0} → Losing I A → ℕ × Event A → Type 0
-WantsNext s e = (shows_new (kept_of s).tracked (sights_by (kept_of s) e.1) ≡ true) ⊎ ((piece_by (period_of s) s.style (kept_of s) e).text ≡ [] → ⊥)
+WantsNext s e = (shows_new (kept_of s).tracked (sights_by (kept_of s) e.1) ≡ true) ⊎ ((piece_by (periods_of s) s.style (kept_of s) e).text ≡ [] → ⊥)
 
 -- of an event that was read: what it tells is answered, or memory was wanted
 abbrev pub ToldNext : {I A F : Type 0} → (I → ℕ) → Losing I A → Event A → AnswerOf ItemText F → Losing I A → Type 0
 ToldNext number old e (Ok None) new = ⊥
-ToldNext number old e (Ok (Some w)) new = (w ≡ (number (events_of new), piece_by (period_of old) old.style (kept_of old) (number (events_of new), e))) × (kept_of new ≡ keep (period_of old) (kept_of old) e)
+ToldNext number old e (Ok (Some w)) new = (w ≡ (number (events_of new), piece_by (periods_of old) old.style (kept_of old) (number (events_of new), e))) × (kept_of new ≡ keep (periods_of old) (kept_of old) e)
 ToldNext number old e (Err (Some f)) new = ⊥
 ToldNext number old e (Err None) new = WantsNext old (number (events_of new), e)
 
@@ -55,8 +56,8 @@ ToldNext number old e (Err None) new = WantsNext old (number (events_of new), e)
 pub record TellsEventNext {I A F : Type 0} (answers : I → AnswerOf (Event A) F → I → Type 0) (old : Losing I A) (answer : AnswerOf ItemText F) (new : Losing I A) : Type 0 where
   pub event : ℕ × Event A
   pub reads : answers (events_of old) (Ok (Some event)) (events_of new)
-  pub told : answer ≡ Ok (Some (event.0, piece_by (period_of old) old.style (kept_of old) event))
-  pub keeps : kept_of new ≡ keep (period_of old) (kept_of old) event.1
+  pub told : answer ≡ Ok (Some (event.0, piece_by (periods_of old) old.style (kept_of old) event))
+  pub keeps : kept_of new ≡ keep (periods_of old) (kept_of old) event.1
   pub goes_on : closing_of new ≡ None
 
 -- the next event came, and memory was wanted for a sender or a stream that is new, or for what is told

@@ -7,7 +7,7 @@ use Rattle.engine_core.specs.Input.{Reader}
 use Rattle.engine_core.specs.RunOver.{RunsOver, stopped_at}
 use Rattle.loss_engine.specs.LossText.{Manner, written_pieces}
 use Rattle.loss_engine.specs.declared.losing.Losing.{Losing}
-use Rattle.loss_engine.specs.computed.Judging.{Judges, closing_of, events_of, kept_of, period_of}
+use Rattle.loss_engine.specs.computed.Judging.{Judges, closing_of, events_of, kept_of, periods_of}
 use Rattle.loss_engine.specs.computed.Tracking.{kept_none}
 
 -- a run over a reader that judges these events, begun with nothing kept
@@ -15,7 +15,7 @@ pub record LossesOver {I A C F : Type 0} (how : Manner F) (reader : Reader I (Ev
   pub first : Losing I A
   pub last : Losing I A
   pub begins : events_of first ≡ start
-  pub has_period : period_of first ≡ how.period
+  pub has_periods : periods_of first ≡ how.periods
   pub has_style : first.style ≡ how.style
   pub none : kept_of first ≡ kept_none
   pub opens : closing_of first ≡ None

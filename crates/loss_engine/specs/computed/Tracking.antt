@@ -13,6 +13,7 @@ use Rattle.loss_core.specs.declared.sender_tally.SenderTally.{SenderTally}
 use Rattle.loss_core.specs.declared.stream.Came.{Came}
 use Rattle.loss_core.specs.declared.stream.Newest.{Newest}
 use Rattle.loss_core.specs.declared.stream.Sample.{Sample}
+use Rattle.loss_core.specs.Periods.{Period}
 use Rattle.loss_core.specs.Sender.{over_at, told_after}
 use Rattle.loss_core.specs.SenderTotals.{kept}
 use Rattle.loss_core.specs.computed.SenderTotalSteps.{first_tally, tally_after}
@@ -23,7 +24,7 @@ use Rattle.loss_core.specs.Findings.{count_told, frame_findings, has_loss, synch
 use Rattle.loss_engine.specs.LossLine.{samples_line, sender_total_line, stream_total_line}
 use Rattle.loss_engine.specs.LossObject.{samples_object, sender_total_object, stream_total_object}
 use Rattle.loss_engine.specs.LossText.{back_lines, closing_in, end_silent, form_of, line_of, sight_lines, styled, with_end}
-use Rattle.loss_engine.specs.Sights.{Key, Shown, Sight, frame, sample, same_key, sights_of}
+use Rattle.loss_engine.specs.Sights.{Key, Shown, Sight, frame, period_for, sample, same_key, sights_of}
 use Rattle.loss_engine.specs.TimeBack.{is_far_below}
 
 -- what is kept of a sender or a stream: the tally of its frames; that of its samples and the last smpSynch; or, where no period is given, how many samples came and the last smpSynch
@@ -75,13 +76,13 @@ with_progress [] key first more = record { key = key; progress = first } ∷ []
 with_progress (x ∷ xs) key first more = if same_key x.key key then record { key = x.key; progress = more x.progress } ∷ xs else x ∷ with_progress xs key first more
 
 -- what is tracked after one sight more
-abbrev pub track : Option ℕ → List Tracked → Sight → List Tracked
-track period xs s = with_progress xs s.key (first_progress period s.moment s.shown) (more_progress s.moment s.shown)
+abbrev pub track : List Period → List Tracked → Sight → List Tracked
+track periods xs s = with_progress xs s.key (first_progress (period_for periods s.key) s.moment s.shown) (more_progress s.moment s.shown)
 
 -- after several
-abbrev pub track_all : Option ℕ → List Tracked → List Sight → List Tracked
-track_all period xs [] = xs
-track_all period xs (s ∷ seen) = track_all period (track period xs s) seen
+abbrev pub track_all : List Period → List Tracked → List Sight → List Tracked
+track_all periods xs [] = xs
+track_all periods xs (s ∷ seen) = track_all periods (track periods xs s) seen
 
 -- the sender that is known
 abbrev pub sender_of : Option Progress → Option Sender
@@ -90,17 +91,17 @@ sender_of (Some (frames t)) = Some t.sender
 sender_of (Some (samples u z)) = None
 sender_of (Some (counted n z)) = None
 
--- what a sample tells by what is known
-abbrev pub came_by : ℕ → Option Progress → Sample → Came
-came_by period None s = came_after period None s
-came_by period (Some (frames t)) s = came_after period None s
-came_by period (Some (samples u z)) s = came_after u.stream.period u.stream.newest s
-came_by period (Some (counted n z)) s = came_after period None s
+-- what the count of a stream's first sample tells, where the stream has a period
+abbrev pub first_came : Option ℕ → Sample → Option Came
+first_came None s = None
+first_came (Some period) s = Some (came_after period None s)
 
--- what a sample's count tells by what is known, where a period is given
+-- what a sample's count tells by what is known of its stream, or, of a first one, by the period
 abbrev pub came_in : Option ℕ → Option Progress → Sample → Option Came
-came_in None known s = None
-came_in (Some period) known s = Some (came_by period known s)
+came_in period None s = first_came period s
+came_in period (Some (frames t)) s = None
+came_in period (Some (samples u z)) s = Some (came_after u.stream.period u.stream.newest s)
+came_in period (Some (counted n z)) s = None
 
 -- the last smpSynch that is known
 abbrev pub synch_of : Option Progress → Option ℕ
@@ -126,9 +127,9 @@ findings_by period known moment (frame p lifetime) =
 findings_by period known moment (sample count synch) = count_told period count (came_in period known (record { count = count; moment = moment })) ++ synch_told (synch_of known) synch
 
 -- what several sights tell, each by what is tracked before it
-abbrev pub findings_all : Option ℕ → List Tracked → List Sight → List (List Finding)
-findings_all period xs [] = []
-findings_all period xs (s ∷ seen) = findings_by period (known_of xs s.key) s.moment s.shown ∷ findings_all period (track period xs s) seen
+abbrev pub findings_all : List Period → List Tracked → List Sight → List (List Finding)
+findings_all periods xs [] = []
+findings_all periods xs (s ∷ seen) = findings_by (period_for periods s.key) (known_of xs s.key) s.moment s.shown ∷ findings_all periods (track periods xs s) seen
 
 -- ---- events
 
@@ -161,25 +162,25 @@ abbrev pub sights_by : {A : Type 0} → Kept → Event A → List Sight
 sights_by k e = sights_of (max k.moment e.moment) e.kind
 
 -- what is kept after it
-abbrev pub keep : {A : Type 0} → Option ℕ → Kept → Event A → Kept
-keep period k e = record { moment = max k.moment e.moment; is_back = is_far_below k.moment e.moment; tracked = track_all period k.tracked (sights_by k e) }
+abbrev pub keep : {A : Type 0} → List Period → Kept → Event A → Kept
+keep periods k e = record { moment = max k.moment e.moment; is_back = is_far_below k.moment e.moment; tracked = track_all periods k.tracked (sights_by k e) }
 
 -- the piece that is written of it
-abbrev pub piece_by : {A : Type 0} → Option ℕ → Style → Kept → ℕ × Event A → ItemText
-piece_by period style k e = record {
-  text = styled style e.1.moment (λ form. back_lines form e.0 e.1.moment (back_by k e.1.moment) ++ sight_lines form e.0 e.1.moment (sights_by k e.1) (findings_all period k.tracked (sights_by k e.1)));
-  is_finding = is_some (back_by k e.1.moment) || list_any has_loss (findings_all period k.tracked (sights_by k e.1));
+abbrev pub piece_by : {A : Type 0} → List Period → Style → Kept → ℕ × Event A → ItemText
+piece_by periods style k e = record {
+  text = styled style e.1.moment (λ form. back_lines form e.0 e.1.moment (back_by k e.1.moment) ++ sight_lines form e.0 e.1.moment (sights_by k e.1) (findings_all periods k.tracked (sights_by k e.1)));
+  is_finding = is_some (back_by k e.1.moment) || list_any has_loss (findings_all periods k.tracked (sights_by k e.1));
 }
 
 -- what is kept after several
-abbrev pub keep_all : {A : Type 0} → Option ℕ → Kept → List (ℕ × Event A) → Kept
-keep_all period k [] = k
-keep_all period k (e ∷ es) = keep_all period (keep period k e.1) es
+abbrev pub keep_all : {A : Type 0} → List Period → Kept → List (ℕ × Event A) → Kept
+keep_all periods k [] = k
+keep_all periods k (e ∷ es) = keep_all periods (keep periods k e.1) es
 
 -- the pieces that are written of several
-abbrev pub pieces_by : {A : Type 0} → Option ℕ → Style → Kept → List (ℕ × Event A) → List (ℕ × ItemText)
-pieces_by period style k [] = []
-pieces_by period style k (e ∷ es) = (e.0, piece_by period style k e) ∷ pieces_by period style (keep period k e.1) es
+abbrev pub pieces_by : {A : Type 0} → List Period → Style → Kept → List (ℕ × Event A) → List (ℕ × ItemText)
+pieces_by periods style k [] = []
+pieces_by periods style k (e ∷ es) = (e.0, piece_by periods style k e) ∷ pieces_by periods style (keep periods k e.1) es
 
 -- ---- the end of the input
 
@@ -227,15 +228,15 @@ closing_pieces style unfinished n k = []
 closing_pieces style (faulty f) n k = []
 
 -- the pieces of an input that goes on so behind events of which this is kept, where those at the end come under this number
-abbrev pub pieces_onward : {A F : Type 0} → Option ℕ → Style → ℕ → Kept → Numbered (Event A) F → Numbered ItemText F
-pieces_onward period style n k said = record {
-  items = pieces_by period style k said.items ++ closing_pieces style said.stop n (keep_all period k said.items);
+abbrev pub pieces_onward : {A F : Type 0} → List Period → Style → ℕ → Kept → Numbered (Event A) F → Numbered ItemText F
+pieces_onward periods style n k said = record {
+  items = pieces_by periods style k said.items ++ closing_pieces style said.stop n (keep_all periods k said.items);
   stop = said.stop;
 }
 
 -- the pieces of an input
-abbrev pub pieces_of : {A F : Type 0} → Option ℕ → Style → ℕ → Numbered (Event A) F → Numbered ItemText F
-pieces_of period style n said = pieces_onward period style n kept_none said
+abbrev pub pieces_of : {A F : Type 0} → List Period → Style → ℕ → Numbered (Event A) F → Numbered ItemText F
+pieces_of periods style n said = pieces_onward periods style n kept_none said
 
 -- a sender or a stream comes that is not tracked
 abbrev pub shows_new : List Tracked → List Sight → Bool

@@ -3,17 +3,17 @@ ghost use Rattle.std.specs.Prelude.{◌≡◌, ◌++◌, None, [], IfOk, IsOk, o
 ghost use Rattle.std.specs.List.{flat_map};
 ghost use Rattle.text_core.specs.Pieces.{AppendsText};
 ghost use Rattle.loss_core.specs.Findings.{count_told, frame_findings, has_loss, synch_told};
+ghost use Rattle.loss_core.specs.Periods.{ArePeriods, period_of as period_is};
 ghost use Rattle.loss_core.specs.computed.Given.{given};
 ghost use Rattle.loss_engine.specs.KeySaid.{key_said, stream_said};
 ghost use Rattle.loss_engine.specs.LossText.{back_lines, told_line};
-ghost use Rattle.loss_engine.specs.computed.Entries.{IsPeriodOf};
 
 use crate::key::{Key, StreamKey};
 use crate::texts::finding::put_finding;
 use crate::texts::time_back::put_time_back;
 use loss_core::{
-    Arrival, Came, Finding, Told, findings_of_frame, findings_of_sample, is_frame_quiet,
-    is_sample_quiet,
+    Arrival, Came, Finding, StreamPeriod, Told, findings_of_frame, findings_of_sample,
+    is_frame_quiet, is_sample_quiet, period_of,
 };
 use object_core::Heading;
 use std::alloc::{AllocError, Allocator};
@@ -95,26 +95,28 @@ pub fn put_frame<A: Allocator>(
 }
 
 /// Appends what is told of a sample of a stream, and answers whether that is a loss: by what its count is, where the stream has a
-/// period of so many samples a second, and by the smpSynch before it and its own.
+/// period among those that are given, and by the smpSynch before it and its own.
 #[inline]
 pub fn put_sample<A: Allocator>(
     out: &mut Vec<u8, A>,
     heading: &Heading,
     key: StreamKey<'_>,
-    period: Option<u32>,
+    periods: &[StreamPeriod<A>],
     count: u16,
     came: Option<Came>,
     before: Option<u8>,
     synch: u8,
 ) -> Result<bool, AllocError>
-    requires { IsPeriodOf period }
-    ensures text { AppendsText result out.old.items out.new.items (flat_map (told_line heading.now.form heading.now.number heading.now.moment (stream_said key.entry)) (count_told period count came ++ synch_told before synch)) }
-    ensures found { IfOk result (λ found. found ≡ has_loss (count_told period count came ++ synch_told before synch)) }
-    ensures quiet { count_told period count came ++ synch_told before synch ≡ [] → IsOk result }
+    requires { ArePeriods periods.now }
+    ensures text { AppendsText result out.old.items out.new.items (flat_map (told_line heading.now.form heading.now.number heading.now.moment (stream_said key.entry))
+        (count_told (period_is periods.now key.entry.id.now) count came ++ synch_told before synch)) }
+    ensures found { IfOk result (λ found. found ≡ has_loss (count_told (period_is periods.now key.entry.id.now) count came ++ synch_told before synch)) }
+    ensures quiet { count_told (period_is periods.now key.entry.id.now) count came ++ synch_told before synch ≡ [] → IsOk result }
 {
-    if is_sample_quiet(period, count, came, before, synch) {
+    if is_sample_quiet(count, came, before, synch) {
         return Ok(false);
     }
+    let period = period_of(periods, key.id);
     put_findings(
         out,
         *heading,

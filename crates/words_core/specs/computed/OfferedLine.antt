@@ -8,7 +8,7 @@ use Rattle.clap.specs.declared.builder.command.Command.TheViews.{out-Command}
 use Rattle.words_core.specs.declared.words.Request.{Request}
 use Rattle.words_core.specs.declared.words.WordsError.{WordsError}
 use Rattle.words_core.specs.declared.words.WordsError.TheVariants as refused
-use Rattle.words_core.specs.RequestLine.{AnswersRequest, RefusesBlock, Wish, offered}
+use Rattle.words_core.specs.RequestLine.{AnswersRequest, RefusesUnsaid, Wish, offered}
 
 abbrev pub offering : Bool → App → App
 offering takes a = record a { top = offered takes a.top }
@@ -25,12 +25,13 @@ IsLocal answer = IfOk answer (λ c. (out-Command c).has_globals ≡ false)
 abbrev pub IsExclusion : WordsError → Type 0
 IsExclusion (refused.Words error) = kind_of error ≡ kind.ArgumentConflict
 IsExclusion (refused.Block i) = ⊥
+IsExclusion (refused.Period i) = ⊥
 IsExclusion refused.Memory = Unit {0}
 
 -- what is wished for is answered, refused memory aside
 abbrev pub AnswersWish : Wish → Result Request WordsError → Type 0
 AnswersWish (Ok wish) answer = AnswersRequest wish.0 wish.1 answer
-AnswersWish (Err i) answer = RefusesBlock i answer
+AnswersWish (Err unsaid) answer = RefusesUnsaid unsaid answer
 
 -- the same, where something is wished for
 abbrev pub MayGrant : Option Wish → Option (Result Request WordsError) → Type 0

@@ -6,5 +6,6 @@ pub loop-at-preserved : goal.loop-at-preserved
 loop-at-preserved g c =
     record {
       within = omega arith;
+      room = omega (arith, c.loop-at.invariant.room, c.in_ok-push.ensures.capacity);
       listed = switched_more c.args.positions.now c.loop-at.at-index _ c.args.entries.now.items _ _ c.loop-at-test.true c.in_ok-push.ensures.items c.loop-at.invariant.listed;
     }

@@ -6,7 +6,7 @@ use Rattle.clap.specs.Words.{Text, takes}
 use Rattle.clap.specs.Walk.{texts}
 use Rattle.clap.proofs.WalkLemmas.{both}
 use Rattle.words_core.specs.RequestLine.{request_line, request_of_words}
-use Rattle.words_core.proofs.WordLemmas.{answered_period, answered_plainly, block_refused, request_granted}
+use Rattle.words_core.proofs.WordLemmas.{answered_period, answered_plainly, request_granted, unsaid_refused}
 use Rattle.words_core.proofs.AskingWords.{words_ask_with}
 use Rattle.words_core.proofs.AskedWords.{asked_with}
 use Rattle.words_core.proofs.words.read_request.Goals as goal
@@ -30,5 +30,5 @@ returns-clause-taken c = λ taken.
 pub returns-clause-period : goal.returns-clause-period
 returns-clause-period c = answered_period (texts c.args.words.now) c.read_line.result c.read_line.ensures.faultless c.read_line.ensures.wish
 
-pub returns-clause-bad_block : goal.returns-clause-bad_block
-returns-clause-bad_block c = λ i faultless bad. block_refused (texts c.args.words.now) i c.read_line.result c.read_line.ensures.wish c.read_line.ensures.refused faultless bad
+pub returns-clause-unsaid : goal.returns-clause-unsaid
+returns-clause-unsaid c = λ u faultless bad. unsaid_refused (texts c.args.words.now) u c.read_line.result c.read_line.ensures.wish c.read_line.ensures.refused faultless bad

@@ -12,11 +12,11 @@ returns-in-Ok-clause-only c = λ wish asks. (c.in-Ok.ensures.only wish asks.0 as
 pub returns-in-Ok-clause-task : goal.returns-in-Ok-clause-task
 returns-in-Ok-clause-task c = task_wished (texts c.args.words.now) (asked_by c.in-Ok.request.task) c.in-Ok.request.options c.in-Ok.ensures.request
 
-pub returns-in-Ok-clause-bad_block : goal.returns-in-Ok-clause-bad_block
-returns-in-Ok-clause-bad_block c = λ i faultless bad. absurd (c.in-Ok.ensures.bad_block i faultless bad)
+pub returns-in-Ok-clause-unsaid : goal.returns-in-Ok-clause-unsaid
+returns-in-Ok-clause-unsaid c = λ i faultless bad. absurd (c.in-Ok.ensures.unsaid i faultless bad)
 
 pub returns-in-Err-clause-only : goal.returns-in-Err-clause-only
 returns-in-Err-clause-only c = λ wish asks. c.in-Err.ensures.only wish asks.0 asks.1
 
-pub returns-in-Err-clause-bad_block : goal.returns-in-Err-clause-bad_block
-returns-in-Err-clause-bad_block c = λ i faultless bad. c.in-Err.ensures.bad_block i faultless bad
+pub returns-in-Err-clause-unsaid : goal.returns-in-Err-clause-unsaid
+returns-in-Err-clause-unsaid c = λ i faultless bad. c.in-Err.ensures.unsaid i faultless bad

@@ -1,8 +1,9 @@
 use Rattle.std.proofs.Common.{◌≡◌, refl, sym, subst, rules, true, Ok, Err}
 use Rattle.std.specs.Result.{is_ok}
-use Rattle.words_core.specs.CommandLine.{Meaning}
+use Rattle.words_core.specs.CommandLine.{Meaning, block_at}
 use Rattle.words_core.specs.computed.PrivateCalls.{AnswersWords}
-use Rattle.words_core.proofs.BlockWords.{said_all, said_more, said_none}
+use Rattle.words_core.proofs.BlockWords.{said_all, said_none}
+use Rattle.words_core.proofs.SaidTexts.{said_more}
 use Rattle.words_core.specs.declared.words.Task.TheVariants.{Replay}
 use Rattle.words_core.specs.declared.words.WordsError.TheVariants as refused
 use Rattle.words_core.proofs.words.replay_task.Goals as goal
@@ -10,7 +11,7 @@ use Rattle.words_core.proofs.words.replay_task.Goals as goal
 pub loop-position-preserved : goal.loop-position-preserved
 loop-position-preserved c =
     let pushed : is_ok c.push.result ≡ true = search rules in
-    rw (c.push.ensures.items, pushed) (said_more c.args.words.now c.loop-position.position _ _ c.in-Ok.block c.loop-position-test.true c.loop-position.invariant c.in-Ok.ensures)
+    rw (c.push.ensures.items, pushed) (said_more block_at c.args.words.now c.loop-position.position _ _ c.in-Ok.block c.loop-position-test.true c.loop-position.invariant c.in-Ok.ensures)
 
 pub returns-in-Err-BlockForm : goal.returns-in-Err-BlockForm
 returns-in-Err-BlockForm c =

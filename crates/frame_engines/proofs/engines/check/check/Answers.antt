@@ -1,6 +1,22 @@
+use Rattle.std.proofs.Common.{sym, ◌∙◌}
+use Rattle.list_core.specs.EventLine.{event_rules}
+use Rattle.list_core.specs.ItemReader.{item_number, item_state}
+use Rattle.list_core.specs.declared.event_lines.EventLines.TheVariants.{First}
+use Rattle.engine_core.proofs.EventSteps.{exactly_over}
+use Rattle.engine_core.proofs.ListedRuns.{listed, listed_failed}
+use Rattle.frame_engines.specs.CheckText.{check_event, check_text}
 use Rattle.frame_engines.proofs.engines.check.check.Goals as goal
 
 pub returns-clause-text : goal.returns-clause-text
 returns-clause-text g c =
-    let r = c.check_to_stop.ensures.text in
-    rw (c.into_source.ensures.left, c.into_source.ensures.source, c.into_source.ensures.ending) (r.0, r.1, (c.check_to_stop.result.fault, r.2))
+    let state = item_state g.R.Source.left g.R.Source.ending in
+    let new = c.new-events.ensures in
+    let r = listed event_rules First state item_number _ check_text (exactly_over check_event _) c.new-events.result c.check_over.result _ _ (record { is_open = new.ending ∙ c.requires.open; no_line = new.taken; no_octet = new.held; has_settled = new.settled }) c.check_over.ensures.text in
+    rw (c.into_source.ensures.left, c.into_source.ensures.source, c.into_source.ensures.ending, sym new.left) (r.0, r.1, (c.check_over.result.fault, r.2))
+
+pub returns-clause-read_fault : goal.returns-clause-read_fault
+returns-clause-read_fault g c =
+    let state = item_state g.R.Source.left g.R.Source.ending in
+    let new = c.new-events.ensures in
+    let r = listed event_rules First state item_number _ check_text (exactly_over check_event _) c.new-events.result c.check_over.result _ _ (record { is_open = new.ending ∙ c.requires.open; no_line = new.taken; no_octet = new.held; has_settled = new.settled }) c.check_over.ensures.text in
+    rw (c.into_source.ensures.source, c.into_source.ensures.ending) (listed_failed event_rules First check_text _ _ _ _ _ _ r.2)

@@ -12,6 +12,7 @@ loop-next-init g c =
     let first = c.first_due-next.ensures in
     record {
       within = next_in_nodes d.nodes.items c.args.now 0 c.first_due-next.result first.found;
+      room = omega arith;
       more = omega arith;
       listed = λ held keeps. listed_first _ c.args.now (half d.nodes.items) held c.first_due-next.result c.args.entries.now.items (first_onward d held c.args.now c.first_due-next.result keeps c.ranges.now.fits first.found first.none);
     }
@@ -31,6 +32,7 @@ loop-next-preserved g c =
     let grown = longer _ at c.loop-next.entries.items _ c.in_ok-push.ensures.items in
     record {
       within = next_in_nodes d.nodes.items c.args.now _ c.next_due-next.result next.found;
+      room = omega (arith, c.loop-next.invariant.room, c.in_ok-push.ensures.capacity);
       more = omega (arith, grown, c.loop-next.invariant.more);
       listed = λ held keeps.
           listed_more _ c.args.now (half d.nodes.items) at held c.loop-next.next c.next_due-next.result c.args.entries.now.items c.loop-next.entries.items _ c.in-Some.is c.in_ok-push.ensures.items

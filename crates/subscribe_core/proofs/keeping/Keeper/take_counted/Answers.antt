@@ -1,4 +1,4 @@
-use Rattle.std.proofs.Common.{◌≤◌, ◌++◌, ℕ, List, max, inl, inr, ap, ◌∙◌, subst, arith}
+use Rattle.std.proofs.Common.{◌≡◌, ◌≤◌, ◌++◌, [], ℕ, List, append-nil, length, max, inl, inr, ap, ◌∙◌, subst, arith}
 use Rattle.std.proofs.lemmas.Bool.{false≢true}
 use Rattle.subscribe_core.specs.declared.entry.Entry.{Entry}
 use Rattle.subscribe_core.specs.computed.Deadlines.{due_count, helds}
@@ -7,6 +7,8 @@ use Rattle.subscribe_core.specs.Apart.{AreApart}
 use Rattle.subscribe_core.specs.computed.PrivateCalls.{StateAndReaches}
 use Rattle.subscribe_core.specs.computed.Steps.{expired_entries, said_of, switched_entries}
 use Rattle.subscribe_core.specs.computed.Content.{content_of}
+use Rattle.subscribe_core.specs.Changes.{changes}
+use Rattle.subscribe_core.proofs.Changing.{changes_back, changes_front, none_expired}
 use Rattle.subscribe_core.proofs.Due.{expired_counted}
 use Rattle.subscribe_core.proofs.Flagging.{other_more}
 use Rattle.list_core.proofs.Emptiness.{back_nil, front_nil}
@@ -50,3 +52,27 @@ returns-clause-count g c =
 
 pub returns-clause-apart : goal.returns-clause-apart
 returns-clause-apart g c = subst (λ (s : StateAndReaches _). AreApart s.state.blocks) c.self.view_is c.self.invariant.apart
+
+pub returns-in_err-list_expired-clause-room : goal.returns-in_err-list_expired-clause-room
+returns-in_err-list_expired-clause-room g c = λ none fits.
+    let s = c.args.self.now.state in
+    let now_is = c.max-now.ensures ∙ ap (λ (t : StateAndReaches _). max t.state.moment c.args.event.now.moment) c.self.view_is in
+    let k = content_of c.args.event.now.kind in
+    let last = max s.moment c.args.event.now.moment in
+    let rest : List (Entry g.row.A.Denot) = switched_entries s.mode k 0 s.blocks s.registers ++ said_of last s.mode s.blocks s.registers k in
+    let over = none_expired last 0 s.registers (changes_front (expired_entries last 0 s.registers) rest none) in
+    absurd (false≢true (c.in_err-list_expired.ensures.quiet (ap (λ n. expired_entries n 0 s.registers) now_is ∙ over)))
+
+pub returns-in_err-take_kind-clause-room : goal.returns-in_err-take_kind-clause-room
+returns-in_err-take_kind-clause-room g c = λ none fits.
+    let s = c.args.self.now.state in
+    let k = content_of c.args.event.now.kind in
+    let last = max s.moment c.args.event.now.moment in
+    let now_is = c.max-now.ensures ∙ ap (λ (t : StateAndReaches _). max t.state.moment c.args.event.now.moment) c.self.view_is in
+    let rest : ℕ → List (Entry g.row.A.Denot) = λ n. switched_entries s.mode k 0 s.blocks s.registers ++ said_of n s.mode s.blocks s.registers k in
+    let over : expired_entries {A = g.row.A.Denot} last 0 s.registers ≡ [] = none_expired last 0 s.registers (changes_front (expired_entries last 0 s.registers) (rest last) none) in
+    let old = c.args.entries.now.items in
+    let same = c.in_ok-list_expired.ensures.entries ∙ ap (λ (es : List (Entry g.row.A.Denot)). old ++ es) (ap (λ n. expired_entries n 0 s.registers) now_is ∙ over) ∙ append-nil old in
+    let as_long = ap length same in
+    absurd (false≢true (c.in_err-take_kind.ensures.room (ap (λ n. changes (rest n)) now_is ∙ changes_back (expired_entries last 0 s.registers) (rest last) none)
+    (omega (arith, as_long, c.in_ok-list_expired.ensures.capacity, fits))))

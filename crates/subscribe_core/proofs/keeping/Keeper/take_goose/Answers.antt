@@ -5,6 +5,9 @@ use Rattle.subscribe_core.specs.computed.Deadlines.{due_count, helds}
 use Rattle.subscribe_core.specs.computed.Indexed.{registers_after_clock}
 use Rattle.subscribe_core.specs.computed.Received.{received_frame}
 use Rattle.subscribe_core.specs.State.{State}
+use Rattle.std.proofs.lemmas.Bool.{false≢true}
+use Rattle.subscribe_core.specs.Changes.{changes}
+use Rattle.subscribe_core.proofs.Changing.{no_switch}
 use Rattle.subscribe_core.proofs.Frames.{answer_good, answer_none, answer_refused, new_ahead, new_lives, reason_told, registers_good, registers_kept, registers_refused, written_fewer, written_new, written_none}
 use Rattle.subscribe_core.proofs.Flagging.{flag_left, flag_set}
 use Rattle.subscribe_core.proofs.keeping.Keeper.take_goose.Goals as goal
@@ -205,3 +208,27 @@ returns-else-is_switching-clause-count g c =
     let first = c.reach-reach.ensures.count in
     let less = subst (λ (rs : List Register). due_count c.args.now (helds rs) ≤ due_count c.args.now (helds s.registers)) (sym (c.hold.ensures.registers r here ∙ moved)) fewer in
     omega (arith, less, c.hold.ensures.count, first)
+
+pub returns-in_err-push_good-clause-room : goal.returns-in_err-push_good-clause-room
+returns-in_err-push_good-clause-room g c = λ none fits.
+    let s = c.args.self.now.state in
+    let f = received_frame c.args.frame.now in
+    let x = c.look.result.0.now in
+    let r = c.look.result.1 in
+    let block = sym (ap₂ (λ (t : State _) (n : ℕ). slice_get t.blocks n) c.reach-reach.ensures.state c.reach-reach.ensures.at) ∙ c.look.ensures.block in
+    let register_is = sym (ap₂ (λ (t : State _) (n : ℕ). slice_get t.registers n) c.reach-reach.ensures.state c.reach-reach.ensures.at) ∙ c.look.ensures.register in
+    let told = reason_told x f c.is_other_kind-is_other_kind.result s.mode c.is_simulating-mode.result r.takes_simulated None c.is_other_kind-is_other_kind.ensures c.is_simulating-mode.ensures c.in_default-first_reason.ensures in
+    let same = answer_good c.args.now s.mode s.blocks s.registers f c.in-Some.at x r c.position_of.ensures.apart (sym c.in-Some.ensures.found) block register_is told in
+    absurd (false≢true (c.in_err-push_good.ensures.room (ap changes same ∙ none) fits))
+
+pub returns-in_err-switch_on-in-Some-2-clause-room : goal.returns-in_err-switch_on-in-Some-2-clause-room
+returns-in_err-switch_on-in-Some-2-clause-room g c = λ none fits.
+    let s = c.args.self.now.state in
+    let f = received_frame c.args.frame.now in
+    let x = c.look.result.0.now in
+    let r = c.look.result.1 in
+    let block = sym (ap₂ (λ (t : State _) (n : ℕ). slice_get t.blocks n) c.reach-reach.ensures.state c.reach-reach.ensures.at) ∙ c.look.ensures.block in
+    let register_is = sym (ap₂ (λ (t : State _) (n : ℕ). slice_get t.registers n) c.reach-reach.ensures.state c.reach-reach.ensures.at) ∙ c.look.ensures.register in
+    let told = reason_told x f c.is_other_kind-is_other_kind.result s.mode c.is_simulating-mode.result r.takes_simulated None c.is_other_kind-is_other_kind.ensures c.is_simulating-mode.ensures c.in_default-first_reason.ensures in
+    let same = answer_good c.args.now s.mode s.blocks s.registers f c.in-Some.at x r c.position_of.ensures.apart (sym c.in-Some.ensures.found) block register_is told in
+    absurd (no_switch c.in-Some.at c.args.now r f (ap changes same ∙ none) (sym c.is_switching.ensures ∙ c.if-is_switching.true))

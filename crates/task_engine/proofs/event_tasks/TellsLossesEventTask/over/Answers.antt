@@ -7,5 +7,5 @@ returns-clause-text g c =
     (record {
       fault = c.losses_over.result.fault;
       by = c.of_input.ensures.fault;
-      is_left = record { first = l.first; last = l.last; begins = l.begins; has_period = l.has_period; has_style = l.has_style; none = l.none; opens = l.opens; ends = l.ends; run = l.run };
+      is_left = record { first = l.first; last = l.last; begins = l.begins; has_periods = l.has_periods; has_style = l.has_style; none = l.none; opens = l.opens; ends = l.ends; run = l.run };
     })

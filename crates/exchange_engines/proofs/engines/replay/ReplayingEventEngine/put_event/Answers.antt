@@ -1,10 +1,12 @@
-use Rattle.std.proofs.Common.{◌≡◌, ◌∙◌, List, subst}
+use Rattle.std.proofs.Common.{◌≡◌, ◌∙◌, List, ap, subst, arith}
+use Rattle.std.specs.Prelude.{vec_capacity}
 use Rattle.std.proofs.lemmas.Bool.{false≢true}
 use Rattle.std.proofs.lemmas.Result.{err_from_is_err_and}
 use Rattle.block_core.specs.declared.block.Block.{Block}
 use Rattle.subscribe_core.specs.declared.entry.Entry.{Entry}
+use Rattle.exchange_engines.specs.ReplayText.{told_of}
 use Rattle.exchange_engines.specs.computed.ReplayStep.{IsSaid}
-use Rattle.exchange_engines.proofs.ReplayLemmas.{no_entries, replays}
+use Rattle.exchange_engines.proofs.ReplayLemmas.{no_entries, replays, wants_none}
 use Rattle.exchange_engines.proofs.engines.replay.ReplayingEventEngine.put_event.Goals as goal
 
 pub returns-clause-step : goal.returns-clause-step
@@ -12,24 +14,35 @@ returns-clause-step g c = λ before stands.
     let form = c.args.form in
     let n = c.args.number in
     let event = c.args.event.now in
+    let manner = c.args.self.now.manner in
     let s = c.args.self.now.subscriber.state in
-    let entries = c.take_into.new.entries.items in
+    let room = vec_capacity c.args.self.now.entries in
+    let entries = c.keep_told.new.entries.items in
     let given = c.blocks-blocks.result.now in
     let w = c.in_ok-put_said.ensures.text in
     let blocks : given ≡ s.blocks = c.blocks-blocks.ensures ∙ c.in_ok-take_into.ensures.blocks in
-    replays form s c.take_into.new.self.state before n event entries w.0 c.args.line.now.items c.put_said.new.line.items stands c.in_ok-take_into.ensures.step c.in_ok-take_into.ensures.state
+    let told = c.keep_told.ensures.told ∙ ap (told_of manner.changes_alone) c.in_ok-take_into.ensures.step in
+    replays manner form s c.take_into.new.self.state room (vec_capacity c.keep_told.new.entries) before n event entries w.0 c.args.line.now.items c.put_said.new.line.items stands told c.in_ok-take_into.ensures.state
+    (omega (arith, c.keep_told.ensures.capacity, c.in_ok-take_into.ensures.capacity))
     (subst (λ (bs : List (Block g.row.A.Denot)). IsSaid form n event.moment bs entries w.0) blocks
     (subst (λ (es : List (Entry g.row.A.Denot)). IsSaid form n event.moment given es w.0) c.as_slice-entries.ensures.value w.2)) w.1
 
 pub returns-in_err-take_into-clause-step : goal.returns-in_err-take_into-clause-step
 returns-in_err-take_into-clause-step g c = λ before stands.
+    let manner = c.args.self.now.manner in
     let s = c.args.self.now.subscriber.state in
+    let room = vec_capacity c.args.self.now.entries in
     let p = err_from_is_err_and c.from_residual.result c.from_residual.ensures.1 in
-    rw p.1 (λ written is none. false≢true (c.in_err-take_into.ensures.quiet_step (no_entries c.args.form s before c.args.number c.args.event.now written stands is none)))
+    rw p.1 (λ written is none. wants_none _ manner.changes_alone _ room
+    (λ empty. false≢true (c.in_err-take_into.ensures.quiet_step empty)) (λ few more. false≢true (c.in_err-take_into.ensures.quiet_changes few more)) stands.has_room
+    (no_entries manner c.args.form s room before c.args.number c.args.event.now written stands is none))
 
 pub returns-in_err-put_said-clause-step : goal.returns-in_err-put_said-clause-step
 returns-in_err-put_said-clause-step g c = λ before stands.
+    let manner = c.args.self.now.manner in
     let s = c.args.self.now.subscriber.state in
+    let room = vec_capacity c.args.self.now.entries in
     let p = err_from_is_err_and c.from_residual-in_err-put_said.result c.from_residual-in_err-put_said.ensures.1 in
+    let told = c.keep_told.ensures.told ∙ ap (told_of manner.changes_alone) c.in_ok-take_into.ensures.step in
     rw p.1 (λ written is none. false≢true (c.in_err-put_said.ensures.quiet
-    (c.as_slice-entries.ensures.value ∙ c.in_ok-take_into.ensures.step ∙ no_entries c.args.form s before c.args.number c.args.event.now written stands is none)))
+    (c.as_slice-entries.ensures.value ∙ told ∙ no_entries manner c.args.form s room before c.args.number c.args.event.now written stands is none)))
