@@ -137,10 +137,13 @@ def malformed():
     rows = [(9, "frames missing", "state 5: sqNum 101; came with an error: packet 5")]
     yield Rows("a frame with an error", capture(spoilt(good, 5)), told, rows, (0, 1, 0))
     yield Rows("a frame with an error in a classic capture", classic(spoilt(good, 5)), told, rows, (0, 1, 0))
-    tagged = [(at, octets[:12] + b"\x81\x00\x80\x05" + octets[12:]) for at, octets in good]
-    time, octets = tagged[4]
-    tagged[4] = time, put(octets, at34=0x99)
-    yield Rows("a frame with an error and a tag", capture(tagged), told, rows, (0, 1, 0))
+    for tags in ("81008005", "892f00400001", "81008005892f00400001", "8100000581008005", "88a8000581008005", "892f00400001" * 2):
+        head = bytes.fromhex(tags)
+        tagged = [(at, octets[:12] + head + octets[12:]) for at, octets in good]
+        time, octets = tagged[4]
+        tagged[4] = time, put(octets, **{f"at{30 + len(head)}": 0x99})
+        for name, held in (("", capture(tagged)), (" in a classic capture", classic(tagged))):
+            yield Rows(f"a frame with an error and the tags {tags}{name}", held, told, rows, (0, 1, 0))
     again = spoilt(station([], (2500, 5, 101)), 5)
     yield Rows("a frame with an error, and a late one of its numbers", capture(again), {
         "Errors": (RED, bad), "Losses": (AMBER, "1 frame that control blocks lack", "1 late frame was not missing, first: packet 13"), **COPIED},

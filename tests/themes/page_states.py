@@ -90,9 +90,18 @@ def recorded():
         several += b"".join(packet(good[-1][0], good[0][1], which=it) for it in order)
         yield Judged(f"packets of two interfaces any, {order[0]} first", several, {"Capture": (AMBER,
             f"3 packets of Linux cooked (LINUX_SLL), from packet {len(good) + 1} on")})
-    for name, head, what in (("an HSR ring", "892f00400001", "892f (HSR)"), ("frames with an outer tag", "88a80005", "88a8"),
+    for name, head in (("an HSR ring", "892f00400001"), ("an HSR ring with VLAN tags", "81000005892f00400001"),
+                       ("frames with a tag in a tag", "8100000581000006"), ("frames with an outer tag before another", "88a8000581000006"),
+                       ("an HSR ring within another", "892f00400001892f00400002")):
+        held = [(at, carried(it, head)) for at, it in good]
+        yield Judged(f"{name}, of which all frames are read", capture(held), {}, says=[" --unwrap "])
+        yield Judged(f"{name}, in which a frame is missing", capture(held[:20] + held[21:]), {"Losses": (RED, "1 frame missing")})
+    yield Judged("an HSR ring in which each frame comes both ways round",
+                 capture((at + late, carried(it, f"892f{way}0400001")) for at, it in good for late, way in ((0, 0), (50, 1))), {})
+    cut = (good[-1][0], carried(good[-1][1], "892f00400001")[:19])
+    yield Judged("a frame of an HSR ring that ends in the tag", capture([*good, cut]), {"Capture": (AMBER, "1 frame of 892f (HSR)", "not read")})
+    for name, head, what in (("frames with an outer tag", "88a80005", "88a8 (an outer VLAN tag)"),
                              ("frames of MACsec", "88e5000000000001", "88e5 (MACsec)"), ("frames with an old outer tag", "91000005", "9100"),
-                             ("frames with a tag in a tag", "8100000581000006", "8100 (a tag in a tag)"),
                              ("frames with an outer tag of 9200", "92000005", "9200 (an outer VLAN tag)"),
                              ("frames with an outer tag of 9300", "93000005", "9300"),
                              ("MPLS frames", "884700001140", "8847 (MPLS)"), ("MPLS frames to a group", "884800001140", "8848 (MPLS)"),
@@ -475,7 +484,7 @@ def rates():
     two = capture(in_order([*gone(stream(4000, 0.5), 0.2, 0.25), *stream(4800, 0.45, b"MU2", source=0x32)]))
     both = [f"{name}: {rate} samples a second by what the capture shows" for name, rate in (("MU1", "4,000"), ("MU2", "4,800"))]
     yield Judged("two streams of two rates", two, {"Losses": (RED, "200 samples missing"), "Samples": (GREEN, *both)},
-                 says=["losses --capture --json --skip-other --period=MU2=4800 --period=MU1=4000 <"])
+                 says=["losses --capture --json --skip-other --unwrap --period=MU2=4800 --period=MU1=4000 <"])
     yield Judged("two streams of two rates that are given", two, {"Losses": (RED, "200 samples missing"), "Samples": (GREEN,
         "MU2: 4,800 samples a second by --period")},
                  "--period", "MU2=4800", "--period", "4000")
@@ -485,7 +494,7 @@ def rates():
     yield Judged("two streams of two rates beside a lost frame", capture(in_order([*whole, *lacking])), {"Losses": (RED, "1 frame missing (")})
     unknown = in_order([*gone(stream(4000, 0.5), 0.2, 0.25), *stream(200, 1, b"MU2", a_frame=1, source=0x32)])
     yield Judged("a stream of a rate beside one of none", capture(unknown), {"Losses": (RED, "200 samples missing"), "Samples": (AMBER, "MU2")},
-                 says=["losses --capture --json --skip-other --period=MU1=4000 <"])
+                 says=["losses --capture --json --skip-other --unwrap --period=MU1=4000 <"])
     yield Judged("a rate that is given twice", two, {"Losses": (RED, "200 samples missing")}, "--period", "MU1=50", "--period", "MU1=4000")
     for rate, mode, words in ((80, None, "smpRate 80, a period at 50 Hz"), (80, "SmpPerPeriod", "smpRate 80, a period at 50 Hz"), (4000, "SmpPerSec",
         "smpRate 4000, a second")):

@@ -25,7 +25,7 @@ from helpers.frames import SAMPLED, WORKED, asdu, element, put, with_asdus, with
 from helpers.harness import SECONDS, Skipped, run
 from themes.installing import binary
 
-OPTIONS = ["--capture", "--json", "--skip-other"]
+OPTIONS = ["--capture", "--json", "--skip-other", "--unwrap"]
 UNITS = {"ms": 1000, "s": 10**6, "min": 60 * 10**6, "h": 3600 * 10**6, "d": 86400 * 10**6}
 EVENTS, FIRST, FINDINGS = "Events in the order of packets", "First states", "Findings in the order of packets"
 # The columns of totals that goose does not tell, which other tests hold.

@@ -12,7 +12,7 @@ import output
 from reporting.progress import EVERY
 from running import PIECE, Ended, goose, say, version
 
-OPTIONS = ("--capture", "--json", "--skip-other")
+OPTIONS = ("--capture", "--json", "--skip-other", "--unwrap")
 # The operation of fcntl that sets how much a pipe holds (Linux, F_SETPIPE_SZ): Python has its name from 3.10 on.
 PIPE_SIZE = 1031
 NUMBER = re.compile(rb'\{"packet":(\d+)')

@@ -3,10 +3,10 @@ that hide silences."""
 from reporting import page
 from reporting.verdict import found as finding, not_judged, some
 
-# The EtherTypes of frames in which others are, and what to do.
-CARRIERS = {"892f": ("HSR", "capture where the frames have no HSR tag, or with one that takes it off"),
+# The EtherTypes of frames in which others are, and what to do. HSR tags and tags before another are taken out before: these are cut short, or
+# have no tag behind them.
+CARRIERS = {"892f": ("HSR", "capture whole frames"),
             "88a8": ("an outer VLAN tag", "capture where the frames have no outer tag"),
-            "8100": ("a tag in a tag", "capture where the frames have one VLAN tag"),
             **dict.fromkeys(("9100", "9200", "9300"), ("an outer VLAN tag", "capture where the frames have no outer tag")),
             **dict.fromkeys(("8847", "8848"), ("MPLS", "capture where the frames have no MPLS label")),
             "88e7": ("a provider's backbone, PBB", "capture where the frames are not in others"),

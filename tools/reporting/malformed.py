@@ -3,12 +3,29 @@ not say what it is, so it is known by its addresses and its APPID."""
 # How many frames with an error are looked at, and how many times a control block is noted between whose frames some of them come.
 MOST, MOST_BETWEEN = 20000, 50000
 GOOSE, TAG = b"\x88\xb8", b"\x81\x00"
-# The octets of a frame up to its APPID, and with a tag.
-HEAD = 20
+# A ring's tag (IEC 62439-3), and the tags of VLANs of which one can stand before another.
+RING, TAGS = b"\x89\x2f", (TAG, b"\x88\xa8")
+# The octets of a frame up to its APPID, with a tag, and with what a ring or a provider's network put round it.
+HEAD = 64
+
+
+def unwrapped(octets):
+    """The first octets of a frame as goose looks at it by --unwrap: without HSR tags, and without VLAN tags before another."""
+    while True:
+        kind, behind = octets[12:14], octets[16:18]
+        if kind == RING and len(octets) >= 20:
+            octets = octets[:12] + octets[18:]
+        elif kind in TAGS and behind == RING and len(octets) >= 24:
+            octets = octets[:16] + octets[22:]
+        elif kind in TAGS and behind in TAGS:
+            octets = octets[:12] + octets[16:]
+        else:
+            return octets
 
 
 def head_of(octets):
     """The destination, source and APPID of a frame of GOOSE as goose writes them, or None."""
+    octets = unwrapped(octets)
     at = 16 if octets[12:14] == TAG else 12
     if octets[at:at + 2] != GOOSE or len(octets) < at + 4:
         return None
