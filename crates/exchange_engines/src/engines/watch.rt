@@ -109,7 +109,9 @@ fn put_asdu_sample<A: Allocator>(
     Ok(is_unexpected(seen))
 }
 
-// Appends what is told of the stream's ASDUs, and answers whether one of their counts is unexpected.
+// Appends what is told of the stream's ASDUs, and answers whether one of their counts is unexpected. Inlined, so that a run over
+// lines of text has that form alone.
+#[inline(always)]
 fn put_asdu_samples<A: Allocator>(
     watch: &mut Watch,
     id: &[u8],
@@ -133,7 +135,8 @@ fn put_asdu_samples<A: Allocator>(
     Ok(found)
 }
 
-// Appends what is written of an event, and answers whether it is a finding.
+// Appends what is written of an event, and answers whether it is a finding. Inlined for the same reason.
+#[inline(always)]
 fn put_watched<A: Allocator>(
     watch: &mut Watch,
     id: &[u8],
