@@ -15,6 +15,7 @@ pub mod BlockTexts
 pub mod ReplayLines
 pub mod CaptureReplays
 pub mod ChangesTold
+pub mod WrittenLines
 pub mod ListedTexts
 pub mod ListedBlocks
 pub mod WorkedListing

@@ -9,6 +9,7 @@ pub mod CaptureReplay
 pub mod ListLaws
 pub mod OneTextLaws
 pub mod ChangesLaws
+pub mod WholeTexts
 pub mod PublishedLaws
 pub mod JsonText
 pub mod Given

@@ -11,6 +11,7 @@ ghost use Rattle.joint_laws.specs.ListedBlocks.{ListedBlocksAreApart, ListedBloc
 ghost use Rattle.joint_laws.specs.OneTextLaws.{BlocksTextsAreOne, PublishTextsAreOne, ReplayTextsAreOne, WatchTextsAreOne};
 ghost use Rattle.exchange_engines.specs.ScriptLaws.{ScriptsAreInOrder};
 ghost use Rattle.joint_laws.specs.PublishedLaws.{PublishedTextsReplay, ScriptsGiveLists, ScriptsSayRuns};
+ghost use Rattle.joint_laws.specs.WholeTexts.{BlocksIsLines, CheckIsLines, FixedWritesEach, ReplayIsLines, ReplayWritesEach, ShowIsLines, ShowWritesEach, WatchIsLines};
 
 use std::alloc::Allocator;
 
@@ -70,6 +71,25 @@ pub fn replays_write_entries<A: Allocator>()
 /// other entries those that are changes: no entry is told of another event, and none in another order.
 pub fn changes_keep_turns<A: Allocator>()
     ensures { ChangesKeepTurns A }
+{}
+
+/// Of each event a command may write something, whatever events stand before it; so the front that a run leaves which breaks off is
+/// one of a whole text. `check`, `blocks` and `watch` do in each style, `show` and `replay` as text, with dates or without:
+/// as objects they write digits of floats, which exist by what writes them alone.
+pub fn each_event_is_written<A: Allocator, C, F>()
+    ensures fixed { FixedWritesEach A C F }
+    ensures show { ShowWritesEach A C F }
+    ensures replay { ReplayWritesEach A C F }
+{}
+
+/// What a command writes of an event as text is whole lines. So what it writes with `--time` is, without the dates, what it writes
+/// without.
+pub fn texts_are_lines<A: Allocator, C, F>()
+    ensures show { ShowIsLines A C F }
+    ensures check { CheckIsLines A C F }
+    ensures replay { ReplayIsLines A C F }
+    ensures watch { WatchIsLines A C F }
+    ensures blocks { BlocksIsLines A C F }
 {}
 
 /// Of a capture of any length a replay writes the lines of the entries that its events have, each with the number of its packet,
