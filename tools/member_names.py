@@ -55,6 +55,8 @@ class Named:
 
     def __init__(self, leaves=None, names=None, differs=False):
         self.leaves, self.names, self.differs = leaves or {}, names, differs
+        # What is_trip has answered, since one member changes again and again.
+        self.trips = {}
 
     @property
     def is_known(self):
@@ -85,7 +87,13 @@ class Named:
         return (found["node"], found["data"]) if found else ("", "")
 
     def is_trip(self, path):
-        """Whether a device trips where this goes true. RREC closes, and a start (Str) is no trip."""
+        """Whether a device trips where this goes true."""
+        if path not in self.trips:
+            self.trips[path] = self.names_trip(path)
+        return self.trips[path]
+
+    def names_trip(self, path):
+        """The same, by the names. RREC closes, and a start (Str) is no trip."""
         node, data = self.parts(path)
         first, _, phase = data.partition(".")
         trips = first == "Tr" or (first == "Op" and node.startswith("P")) or (first in ("OpEx", "OpIn") and node == "RBRF")

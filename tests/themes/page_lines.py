@@ -13,7 +13,7 @@ from themes.report import OPTIONS
 
 SECOND, PARTS = 10**6, (1, 70, 300, 5000)
 # What of the objects says only how they came to what they say.
-HOW = {"shapes", "owners", "tried", "alone", "skips", "looks", "alike", "shape_of", "flows", "frames", "waiting", "sorts", "state", "since", "told", "until",
+HOW = {"shapes", "owners", "going", "looks", "together", "flows", "frames", "waiting", "sorts", "state", "since", "told", "until",
        "renewals", "of_block", "excuse", "steps", "text_before", "names", "recent", "now", "head", "rate_of", "line", "samples", "paces", "text", "qualities", "burst"}
 # Those whose order says nothing.
 UNORDERED = {"senders", "held", "kinds"}
@@ -69,8 +69,7 @@ class Alike:
     def found(self, shown, replayed, blocks, size):
         """What is found of lines in parts of so many."""
         rates, pace, looking = module("reporting.rates"), module("reporting.pace"), module("reporting.station")
-        # However often it is in vain, it is tried; what changed is held of states that come again, but one by one of the last alone.
-        looking.SKIPS = looking.LINES = 0
+        # What changed is held of states that come again, but one by one of the last alone.
         module("reporting.events").MOST_TOLD = 0 if size == 1 else 8
         asked = rates.Asked([str(self.period)])
         samples = module("reporting.samples").Samples(lambda stream: asked.rate(stream, (), None))
@@ -179,6 +178,34 @@ def live_longer(it, is_other):
     return 0
 
 
+def have_other_revision(it, is_other):
+    """Another confRev of as many digits, in the same state."""
+    it.confrev = 2 if is_other else 1
+    return 0
+
+
+def few(at):
+    """Whether a frame is one of a few that come between two silences, and by how much it comes later."""
+    return 400 <= at <= 430, 1_500_000 * ((at >= 400) + (at >= 430))
+
+
+def few_live_longer():
+    """A few frames of a longer lifetime between two silences: they are looked at one by one, and those before and after them together."""
+    def change(it, at):
+        is_other, later = few(at)
+        live_longer(it, is_other)
+        return later
+    return list(of_one(range(100, 900), change))
+
+
+def errors_between():
+    """Frames that go on, and between them some with an error."""
+    for at, (moment, frame) in enumerate(of_one(range(100, 900))):
+        yield moment, frame
+        if at % 90 == 45:
+            yield moment + 10, frame[:40] + b"\x07" + frame[41:]
+
+
 def come_earlier():
     """Frames whose times are before that of their state's first one, by less than a second."""
     return list(of_one(range(100, 900), lambda it, at: -900_000 if at >= 300 else 0, 1000))
@@ -197,14 +224,14 @@ def last_state(greatest):
     return lambda: list(of_one([*range(100, 309), *range(310, 451), *range(100)], change))
 
 
-def samples_in_turns(change, svids=(b"S",)):
-    """A stream, or several in each frame; what changes after each hundred frames comes back after the next. It answers by how much they come later."""
+def samples_in_turns(change, svids=lambda _: (b"S",)):
+    """A stream, or what has these svIDs in each frame; what changes after each hundred frames comes back after the next. It answers by how much they come later."""
     def made():
         for at in range(900):
             fields, later = change(at, at // 100 % 2 == 1)
             sample = pairs([round(9000 * (at % 80 + channel)) for channel in range(8)])
             frame = with_asdus(*(asdu(sv_id=element(0x80, it), smp_cnt=element(0x82, (1000 + at).to_bytes(2, "big")),
-                                      **{"sample": element(0x87, sample), **fields}) for it in svids))
+                                      **{"sample": element(0x87, sample), **fields}) for it in svids(at)))
             yield made_station.START + at * 250 + later, frame
     return lambda: list(made())
 
@@ -212,13 +239,18 @@ def samples_in_turns(change, svids=(b"S",)):
 def odd_captures():
     """What no longer is as it was when a sort of frames was known, and comes back."""
     yield Alike("a lifetime that changes and comes back", in_turns(range(100, 900), live_longer), 4000)
+    yield Alike("a confRev that changes and comes back", in_turns(range(100, 900), have_other_revision), 4000)
+    yield Alike("a lifetime of a few frames between silences", few_live_longer, 4000)
+    yield Alike("errors between frames that go on", lambda: list(errors_between()), 4000)
     yield Alike("times before a state's first frame", come_earlier, 4000)
     yield Alike("sqNum that rolls over", rolled_over(2**32 - 1), 4000)
     yield Alike("the last stNum, and a lost frame", last_state(2**32 - 1), 4000)
-    other_clock = lambda at, is_other: ({"smp_synch": element(0x85, b"\x0a" if is_other else b"\x02")}, 0)
-    yield Alike("smpSynch that changes and comes back", samples_in_turns(other_clock), 4000)
+    synch = lambda is_other: {"smp_synch": element(0x85, b"\x0a" if is_other else b"\x02")}
+    yield Alike("smpSynch that changes and comes back", samples_in_turns(lambda _, is_other: (synch(is_other), 0)), 4000)
+    yield Alike("smpSynch of a few frames between silences", samples_in_turns(lambda at, _: (synch(few(at)[0]), few(at)[1])), 4000)
     yield Alike("samples whose times go back", samples_in_turns(lambda at, _: ({}, -300_000 if at % 90 > 80 else 0)), 4000)
-    yield Alike("two streams a frame", samples_in_turns(lambda at, _: ({}, 0), (b"S", b"T")), 4000)
+    yield Alike("two streams a frame", samples_in_turns(lambda at, _: ({}, 0), lambda _: (b"S", b"T")), 4000)
+    yield Alike("a second sample in each frame that comes and goes", samples_in_turns(lambda at, _: ({}, 0), lambda at: (b"S",) * (1 + at // 100 % 2)), 4000)
 
 
 def cases():

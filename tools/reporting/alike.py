@@ -1,6 +1,6 @@
 """Lines of goose that are laid out alike: their heads are cut at the same places, and those of one sender, which differ in a few fields alone, are
 compared with how one of them is laid out. None of them is read."""
-import itertools
+import collections
 import operator
 
 from reporting.places import HEAD
@@ -10,21 +10,21 @@ TELLING = 128
 
 
 class Heads:
-    """The heads of lines that are laid out alike: the first and the last as matches of HEAD, the times as octets, and where the kind begins."""
+    """The heads of lines that are laid out alike: the first and the last as matches of HEAD, the times as octets, each with its comma, and where the
+    kind begins."""
 
     def __init__(self, lines, first, last):
         self.lines, self.first, self.last, self.until = lines, first, last, first.start(4)
-        begin, self.end = first.span(2)
-        self.times = [line[begin:self.end] for line in lines]
+        begin, end = first.span(2)
+        self.digits, self.told = end - begin, b"".join(cut_from(lines, slice(begin, end + 1)))
 
     def are_alike(self):
         """Whether all times are numbers of as many digits as the first."""
-        whole = b"".join(self.times)
-        return whole.isdigit() and b"".join([line[self.end:self.end + 1] for line in self.lines]).count(b",") == len(self.lines)
+        number, whole = len(self.lines), self.told.replace(b",", b"")
+        return self.told[self.digits::self.digits + 1] == b"," * number and len(whole) == number * self.digits and whole.isdigit()
 
-    def are_in_order(self):
-        """Whether no time is before the one of the line before. Of as many digits, numbers are in the order of their octets."""
-        return self.times == sorted(self.times)
+    def times(self):
+        return list(map(int, self.told[:-1].split(b",")))
 
 
 def heads_of(lines):
@@ -37,22 +37,34 @@ def heads_of(lines):
 
 
 class Shape:
-    """How lines of one sort are laid out behind their heads: what stays the same, and between these parts the fields, by their places."""
+    """How lines of one sort are laid out behind their heads, which end at a place: what stays the same, and between these parts the fields. The
+    first field is a number of any size: what stands behind it is found from the end of a line."""
 
-    __slots__ = ("sort", "kept", "places", "state")
+    __slots__ = ("sort", "state", "kept", "fields")
 
-    def __init__(self, sort, line, begin, fields, state=None):
-        ends, begins = [begin, *(end for _, end in fields)], [*(at for at, _ in fields), len(line)]
+    def __init__(self, sort, line, begin, fields, state):
+        size = len(line)
+        (first, _), ends = fields[0], [end - size for _, end in fields]
+        begins = [*(at - size for at, _ in fields[1:]), None]
         self.sort, self.state = sort, state
-        self.kept = [itertools.repeat(line[end:at]) for end, at in zip(ends, begins)]
-        self.places = [(first - begin, last - begin) for first, last in fields]
+        self.kept = [(cut, line[cut]) for cut in map(slice, [begin, *ends], [first, *begins])]
+        self.fields = list(map(slice, [first, *begins[:-1]], ends))
 
-    def columns(self, lines, begin):
-        """What each field says in lines whose heads end there; or None where a line is laid out in another way. They are of the size of that which
-        the shape is of."""
-        columns = [[line[begin + first:begin + last] for line in lines] for first, last in self.places]
-        parts = [[line[:begin] for line in lines], *itertools.chain.from_iterable(zip(self.kept, columns)), self.kept[-1]]
-        return columns if b"".join(itertools.chain.from_iterable(zip(*parts))) == b"".join(lines) else None
+    def alike(self, lines):
+        """How many lines from the first on are laid out like this. More than a number can stand between the parts that are kept: a second sample."""
+        number = len(lines)
+        for cut, kept in self.kept:
+            parts = list(cut_from(lines if number == len(lines) else lines[:number], cut))
+            if parts.count(kept) != number:
+                number = next(at for at, it in enumerate(parts) if it != kept)
+        numbers = list(cut_from(lines[:number], self.fields[0]))
+        if all(numbers) and b"".join(numbers).isdigit():
+            return number
+        return next((at for at, it in enumerate(numbers) if not it.isdigit()), 0)
+
+    def columns(self, lines):
+        """What each field says in lines that are laid out like this."""
+        return [list(cut_from(lines, it)) for it in self.fields]
 
 
 class Run:
@@ -67,29 +79,35 @@ class Run:
     def part(self, begin, end):
         return Run(self.lines[begin:end], self.times[begin:end], self.places[begin:end], self.first, self.until)
 
+    def from_place(self, begin, end):
+        """A part of all lines, which is looked at by itself."""
+        return Run(self.lines[begin:end], self.times[begin:end], range(end - begin), self.first + begin, self.until)
+
     def cut(self, ends):
         """The parts of it up to these places, and the rest."""
         return [self.part(begin, end) for begin, end in zip([0, *ends], [*ends, len(self.lines)])]
-
-    def by_size(self):
-        """The parts of it whose lines are of one size."""
-        sizes = list(map(len, self.lines))
-        return [self] if sizes.count(sizes[0]) == len(sizes) else self.cut([at for at in range(1, len(sizes)) if sizes[at] != sizes[at - 1]])
 
     @property
     def packets(self):
         return [self.first + at for at in self.places]
 
+    @property
+    def in_order(self):
+        """How many lines from the first on have times of which none is before the one of the line before."""
+        times = list(self.times)
+        return len(times) if times == sorted(times) else next(at for at in range(1, len(times)) if times[at] < times[at - 1])
+
+
+def cut_from(lines, part):
+    """A part of each line. A loop over them takes twice as long."""
+    return map(operator.itemgetter(part), lines)
+
 
 def parted(keys):
     """The places of each of some keys, in order."""
-    groups = {}
+    groups = collections.defaultdict(list)
     for at, key in enumerate(keys):
-        held = groups.get(key)
-        if held is None:
-            groups[key] = [at]
-        else:
-            held.append(at)
+        groups[key].append(at)
     return groups
 
 

@@ -22,6 +22,8 @@ KINDS = ("act", "refreshed", "repeated", "old", "refused", "expired", "switched"
 STATE = ("stNum", "sqNum", "delay", "tQuality")
 # The kinds that are no events: most entries of many captures.
 RENEWALS, ACT = (b"refreshed", b"repeated"), b'act"'
+# The kinds after which a renewal can begin a bar of the picture anew.
+ENDS = (b"expired", b"switched")
 # What an entry that is acted on says behind its head and up to its members, and how many texts of members of a block are held.
 STATE_TOLD = re.compile(rb',"tQuality":(\{[^}]*\}),"delay":(-?\d+),"stNum":(\d+),"sqNum":(\d+),"members":')
 MOST_TOLD = 8
@@ -84,6 +86,7 @@ class Block:
 
     def __init__(self, record):
         self.appid, self.name, self.counts, self.members = record["appid"], record["gocbRef"], {}, None
+        self.key = self.appid, self.name
         # The last members by their texts, and qualities of t; the last two texts, and what changed from one to another.
         self.told, self.qualities, self.text, self.text_before, self.steps = {}, {}, None, None, {}
         # Of the counts those that are findings: how many, and the first packet.
@@ -109,7 +112,7 @@ class Renewal:
     __slots__ = ("kind", "counted", "key", "picture", "until", "number", "line")
 
     def __init__(self, kind, block, picture):
-        self.kind, self.counted, self.key, self.picture, self.until = kind, block.counts[kind, None], (block.appid, block.name), picture, 0
+        self.kind, self.counted, self.key, self.picture, self.until = kind, block.counts[kind, None], block.key, picture, 0
         self.number, self.line = 0, None
 
     def see(self, found, moment):
@@ -171,7 +174,7 @@ class Events:
         for lines in parts:
             lines = [line for line in lines if not line.endswith(SAMPLED)]
             heads = None if self.comments else heads_of(lines)
-            times = heads and list(map(int, heads.times))
+            times = heads and heads.times()
             if times and times[0] >= self.picture.now and times == sorted(times):
                 self.see_many(heads, times)
             else:
@@ -208,19 +211,19 @@ class Events:
         self.picture.now = times[-1]
 
     def see_entry(self, found, key):
-        """An entry, and what its line tells of its kind and block. Any but a renewal can change what a mark of one means."""
+        """An entry, and what its line tells of its kind and block."""
         renewal, position = self.renewals.get(key), int(found[5])
         if renewal and not self.comments:
             renewal.see(found, int(found[2]))
             return
         self.entry(found.string, found, position)
-        own = self.of_block.setdefault(position, [])
-        if found[4] not in RENEWALS:
-            for it in own:
+        kind = found[4]
+        if kind in ENDS:
+            for it in self.of_block.get(position, ()):
                 it.until = 0
-        elif renewal is None:
-            self.renewals[key] = Renewal(found[4].decode(), self.blocks[position], self.picture)
-            own.append(self.renewals[key])
+        elif renewal is None and kind in RENEWALS:
+            self.renewals[key] = Renewal(kind.decode(), self.blocks[position], self.picture)
+            self.of_block.setdefault(position, []).append(self.renewals[key])
 
     def entry(self, line, found, position):
         kind = found[4].decode()
@@ -240,7 +243,7 @@ class Events:
             state = self.act(block.read(line, found.end()), block, place(found))
         elif kind in OTHERS:
             self.other(kind, sort[1], block, line, place(found), excused)
-        self.picture.mark((block.appid, block.name), kind, int(found[2]), state, int(found[1]), block.counts["act", None].number == 1 if state else False)
+        self.picture.mark(block.key, kind, int(found[2]), state, int(found[1]), block.counts["act", None].number == 1 if state else False)
 
     def comment(self, packet):
         """The comments up to a packet, or all that are left."""

@@ -1,5 +1,7 @@
 """Frames with an error that come where a control block lacks frames: these are told as errors, and not as missing too. Such a frame does
 not say what it is, so it is known by its addresses and its APPID."""
+import bisect
+
 # How many frames with an error are looked at, and how many times a control block is noted between whose frames some of them come.
 MOST, MOST_BETWEEN = 20000, 50000
 GOOSE, TAG = b"\x88\xb8", b"\x81\x00"
@@ -53,15 +55,22 @@ class Malformed:
             self.packets.append(packet)
             self.count += 1
 
-    def of(self, sender):
-        return self.senders.get(sender) or self.senders.setdefault(sender, Between(self.count))
+    def before(self, packet):
+        """How many of those that were seen came before a packet."""
+        return self.count if not self.count or self.packets[-1] < packet else bisect.bisect(self.packets, packet)
+
+    def of(self, sender, packet):
+        return self.senders.get(sender) or self.senders.setdefault(sender, Between(self.before(packet)))
 
     def between(self, between, packet):
-        """A valid frame, and since the last one of its sender some with an error came."""
+        """A valid frame: some with an error may have come since the last one of its sender."""
+        count = self.before(packet)
+        if count == between.count:
+            return
         if self.noted < MOST_BETWEEN:
-            between.held[packet] = between.count, self.count
+            between.held[packet] = between.count, count
             self.noted += 1
-        between.count = self.count
+        between.count = count
 
     def take(self, sender, envelopes, appid, packet, most):
         """At most so many packets with an error that came before this packet where frames of its sender are missing."""

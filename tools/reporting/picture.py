@@ -1,6 +1,7 @@
 """Pictures on a time axis as SVG: lanes of control blocks and streams one above another, and a second picture of each burst of events."""
 import bisect
 import collections
+import itertools
 import math
 
 from output import date
@@ -8,6 +9,7 @@ from reporting import page
 from time_axis import places_of, step_of
 
 WIDTH, SIDE, TOP, LANE, BAR, TRACK, UNDER = 1000, 24, 34, 46, 14, 28, 15
+PLACES = range(WIDTH)
 # The most octets of pictures, and the most marks and bars of one lane.
 MOST_OCTETS, MOST_DRAWN = 250_000, 150
 # How each entry is drawn around (0, 0), in the order of the legend, and what it is.
@@ -87,7 +89,7 @@ class Lane:
     @property
     def marks(self):
         """The marks by their kind and place, each with its label, which states that are acted on have alone."""
-        return {(kind, x): self.labels.get(x, "") if kind == "act" else "" for kind, drawn in self.drawn.items() for x, it in enumerate(drawn) if it}
+        return {(kind, x): self.labels.get(x, "") if kind == "act" else "" for kind, drawn in self.drawn.items() for x in itertools.compress(PLACES, drawn)}
 
     @property
     def bars(self):

@@ -1,5 +1,6 @@
 """What a capture's file says of itself: its octets, its SHA-256, its form, and the interfaces that packets came from."""
 import hashlib
+import math
 import os
 import struct
 import zlib
@@ -34,8 +35,8 @@ class Fields:
     """How numbers of an order of octets are read."""
 
     def __init__(self, order):
-        self.sizes, self.interface, self.packet, self.old_packet, self.whole = (
-            struct.Struct(order + form).unpack_from for form in ("II", "HHI", "IIIII", "HHIIII", "IIIIIII"))
+        self.sizes, self.interface, self.packet, self.old_packet, self.whole, self.record = (
+            struct.Struct(order + form).unpack_from for form in ("II", "HHI", "IIIII", "HHIIII", "IIIIIII", "8xII"))
 
 
 FIELDS = {order: Fields(order) for order in "<>"}
@@ -138,20 +139,35 @@ class Recorded:
 
     def records(self, octets):
         """Takes the records of a classic capture that begin in these octets, and answers where the next one begins."""
-        at, last, number, sizes, it = 0, len(octets) - 16, self.numbers, self.fields.sizes, self.interfaces[0]
-        while at <= last and number < self.most:
-            captured, original = sizes(octets, at + 8)
-            if number + 1 == self.wanted:
-                if at + 16 + min(captured, HEAD) > len(octets):
-                    break
-                self.numbers = self.wanted
-                self.look(octets, at + 16, captured)
-            number += 1
+        at, last, it = 0, len(octets) - 16, self.interfaces[0]
+        while at <= last and self.numbers < self.most:
+            at = self.usual_records(octets, at, last)
+            if self.numbers + 1 != self.wanted or at > last:
+                continue
+            captured, original = self.fields.record(octets, at)
+            if at + 16 + min(captured, HEAD) > len(octets):
+                break
+            self.numbers = self.wanted
+            self.look(octets, at + 16, captured)
+            if captured < original:
+                self.cut.add(self.numbers)
+            at += 16 + captured
+        self.is_over = self.numbers >= self.most
+        it.packets, it.first, it.last = self.numbers, 1 if self.numbers else None, self.numbers or None
+        return at
+
+    def usual_records(self, octets, at, last):
+        """Takes the records of which nothing is looked at, from there on up to the last place where one can begin. Answered is where the next one begins."""
+        record, number = self.fields.record, self.numbers
+        until = min(number + len(octets), self.most, math.inf if self.wanted is None else self.wanted - 1)
+        for number in range(number + 1, until + 1):
+            captured, original = record(octets, at)
             if captured < original:
                 self.cut.add(number)
             at += 16 + captured
-        self.numbers, self.is_over = number, number >= self.most
-        it.packets, it.first, it.last = number, 1 if number else None, number or None
+            if at > last:
+                break
+        self.numbers = number
         return at
 
     def blocks(self, octets):

@@ -477,11 +477,10 @@ class Samples:
         for _, stream in sort.streams:
             self.put(stream, [it for name, *pair in pairs if name == stream.text for it in pair], now, packet)
 
-    def see_all(self, sort, counts, octets, run):
-        """Frames of one stream, one after another."""
+    def wave_at(self, sort):
+        """The wave of the one stream of a sort, or None where its samples are not looked at."""
         wave = sort.wave = sort.wave or self.wave_of(sort.streams[0][1])
-        if wave and not wave.why:
-            wave.see_all(counts, octets, run.times, run.packets)
+        return wave if wave and not wave.why else None
 
     def put(self, stream, told, now, packet):
         """What a frame says of a stream. The wave of it is answered, or None."""

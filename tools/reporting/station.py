@@ -6,7 +6,7 @@ import re
 
 import senders
 from output import date
-from reporting.alike import TELLING, Run, Shape, heads_of, parted, those
+from reporting.alike import TELLING, Run, Shape, cut_from, heads_of, parted, those
 from reporting.clocks import Clock
 from reporting.malformed import Malformed
 from reporting.places import HEAD, Place, Span, place
@@ -28,18 +28,18 @@ OWN = re.compile(rb'"source":"\w+"|"appid":"\w+"|"(?:gocbRef|svID)":"(?:[^"\\]|\
 DIFFERS = {b"smpCnt": rb'"smpCnt":(\d+)', b"refrTm": rb'"refrTm":"[^"]*","refrTime":(?:null|"[^"]*"),"refrQuality":\{[^}]*\}',
            b"sample": rb'"sample":"([^"]*)"', b"field89": rb'"field89":(?:null|"[^"]*")'}
 DIFFERENT = re.compile(b"|".join(DIFFERS.values()))
+ABSENT = b"null"
 # After how many frames of a sort it pays to know the next ones by a pattern of their own.
 MANY = 100
 # How many sorts of frames are held before they are added up, and how many shapes of lines.
 MOST_SORTS, MOST_SHAPES = 10000, 2000
-# Of how many lines it pays to look at those of one sender together, of how many of these at all at once, at how many at most, and of how many to try it
-# in parts; and for how many lines it is not tried where it was in vain; how often that was so, and the lines for which it is not tried. Where most of
-# some lines were looked at one by one, the next ones are too, so often.
-FEWEST, FEW, MOST_TOGETHER, PARTED, LINES, UNTRIED, SKIPS = 64, 6, 256, 32, 64, (0, 0), 8
-# The shape of lines that are looked at one by one alone; and with what the kind of a frame with an error begins.
-NONE, FAULT = False, b'fault"'
-# The greatest number of a frame as it is written.
-GREATEST_TEXT = b"%d" % GREATEST
+# Of how many lines it pays to look at those of one sender together, of how many of these at all at once, and at how many at most.
+FEWEST, FEW, MOST_TOGETHER = 64, 6, 256
+# The shape of lines that are looked at one by one alone; with what the kind of a frame with an error begins; and of how many lines one can be such a
+# frame so that those of one sender are looked at together.
+NONE, FAULT, FAULTY = None, b'fault"', 16
+# A number of fewer digits is not the greatest one.
+DIGITS = len(b"%d" % GREATEST)
 # How many forms of one sender are told.
 MOST_FORMS = 50
 # The bit of Reserved 1 that says that a frame is simulated.
@@ -94,14 +94,21 @@ class Seen:
 
 class Sort:
     """Frames of one sender that are the same in all that is told here: how many, the first and the last. Of GOOSE also the state of the
-    last one that was looked at, and since when; of Sampled Values what its ASDUs say, and its streams."""
+    last one that was looked at, since when, and how a frame of it is written: up to its sqNum, and behind that up to its members. Of Sampled
+    Values what its ASDUs say, and its streams."""
 
-    __slots__ = ("record", "number", "first", "last", "state", "since", "clock", "sequence", "streams", "is_alike", "between", "pace", "wave")
+    __slots__ = ("record", "number", "first", "last", "state", "since", "begin", "end", "clock", "sequence", "streams", "is_alike", "between", "pace", "wave")
 
     def __init__(self, record, found):
         self.record, self.number, self.first, self.last = record, 0, found, found
         self.state, self.since, self.clock, self.sequence, self.streams, self.is_alike = b"", 0, None, None, (), None
-        self.between, self.pace, self.wave = None, None, None
+        self.begin, self.end, self.between, self.pace, self.wave = b"", b"", None, None, None
+
+    def add(self, number, line):
+        """So many more frames, of which this is the line of the last one."""
+        if number:
+            self.number += number
+            self.last = HEAD.match(line)
 
 
 def pattern_of(line, at):
@@ -129,10 +136,11 @@ class Station:
         self.seen, self.sorts, self.flows, self.kinds, self.clocks, self.times = {}, {}, {}, {}, {}, Times()
         self.sequences, self.malformed, self.wraps = Sequences(), Malformed(), Wraps()
         self.first, self.last, self.span = None, None, None
-        # How lines of each sender are laid out; and by their kind what looks at one, at many of one shape, and what tells the shape of one.
-        self.shapes, self.owners, self.tried, self.alone, self.skips = {}, {}, {}, 0, 0
+        # Of each sender how its lines are laid out, and of a control block the sort of its last frame; and by their kind what looks at one line, and
+        # at those of one sender.
+        self.shapes, self.owners, self.going = {}, {}, {}
         self.looks = {b"goose": self.goose, b"sv": self.sampled, b"fault": self.fault}
-        self.alike, self.shape_of = {b"goose": self.states_alike, b"sv": self.samples_alike}, {b"goose": self.shape_of_goose, b"sv": self.shape_of_sampled}
+        self.together = {b"goose": self.see_states, b"sv": self.see_samples}
 
     def see_blocks(self, lines):
         """The lines of goose blocks: of a control block its forms."""
@@ -160,28 +168,49 @@ class Station:
 
     def see_part(self, lines):
         """Some lines: those of one sender together where their times are usual, others one by one."""
-        self.skips -= self.skips > 0
-        heads = heads_of(lines) if len(lines) >= FEWEST and not self.skips else None
+        heads = heads_of(lines) if len(lines) >= FEWEST else None
         if not heads or int(heads.last[1]) - int(heads.first[1]) != len(lines) - 1:
             self.see_each(lines)
+        elif self.times.first is None:
+            self.see_each(lines[:1])
+            self.see_part(lines[1:])
+        else:
+            times = heads.times()
+            self.see_between(Run(lines, times, range(len(lines)), int(heads.first[1]), heads.until), self.times.odd(times))
+
+    def see_between(self, run, odd):
+        """Lines of all senders: those whose times are odd one by one, and those between these together."""
+        for begin, at in zip([0, *(it + 1 for it in odd)], [*odd, len(run.lines)]):
+            if at - begin >= FEWEST:
+                self.see_usual(run.from_place(begin, at) if odd else run)
+            else:
+                self.see_each(run.lines[begin:at])
+            self.see_each(run.lines[at:at + 1])
+
+    def see_usual(self, run):
+        """Lines of all senders whose times are usual: those of one sender together, unless many frames have an error."""
+        groups = parted(cut_from(run.lines, slice(run.until, run.until + TELLING)))
+        faults = sorted(at for key, places in groups.items() if key.startswith(FAULT) for at in places)
+        if FAULTY * len(faults) > len(run.lines):
+            self.see_each(run.lines)
             return
-        groups, times = parted([line[heads.until:heads.until + TELLING] for line in lines]), list(map(int, heads.times))
-        faults = [at for key, places in groups.items() if key.startswith(FAULT) for at in places]
-        alone = sorted({*faults, *self.times.odd(times)})
-        if alone:
-            self.see_between(lines, alone)
-            return
-        self.times.see_all(heads, times)
-        self.alone, owners = 0, {}
+        self.times.see_all(run.lines, run.times)
+        for at in faults:
+            self.malformed.see(run.first + at)
+        self.see_groups(groups, run, faults)
+
+    def see_groups(self, groups, whole, faults):
+        """Lines by what tells their senders: of each the places, and of frames with an error too."""
+        owners = {}
         for key, places in groups.items():
             kind = key[:key.index(b'"')]
             self.kinds[kind] = self.kinds.get(kind, 0) + len(places)
-            if kind in self.looks:
-                owners.setdefault(self.owner_of(key, lines[places[0]]), []).append((key, places))
-        for (kind, *_), held in owners.items():
+            if kind in self.together:
+                owners.setdefault(self.owner_of(key, whole.lines[places[0]]), []).append((key, places))
+        for owner, held in owners.items():
             places = held[0][1] if len(held) == 1 else sorted(at for _, places in held for at in places)
-            self.see_owner(kind, held, Run(those(lines, places), those(times, places), places, int(heads.first[1]), heads.until))
-        self.skips = SKIPS if 2 * self.alone > len(lines) else 0
+            run = Run(those(whole.lines, places), those(whole.times, places), places, whole.first, whole.until)
+            self.together[owner[0]](owner, run, held[0][0] if len(held) == 1 else None, faults)
 
     def owner_of(self, key, line):
         """The control block or the stream of a line, by the beginning of it that is a key."""
@@ -191,21 +220,6 @@ class Station:
             kind, own = key[:key.index(b'"')], OWN.findall(line)
             self.owners[key] = (kind, *own[1:3]) if kind == b"goose" else (kind, *own[:3])
         return self.owners[key]
-
-    def see_owner(self, kind, held, run):
-        """Lines of one control block or stream: one by one, where they are sent in several ways, or are of ever other sizes."""
-        parts = run.by_size() if len(held) == 1 and len(run.lines) >= FEW else ()
-        if not parts or len(parts) * FEW > len(run.lines):
-            self.see_lines(kind, run)
-        else:
-            for part in parts:
-                self.see_run(kind, held[0][0], part)
-
-    def see_between(self, lines, places):
-        """The lines at some places one by one, and those between these in parts."""
-        for begin, at in zip([0, *(it + 1 for it in places)], [*places, len(lines)]):
-            self.see_part(lines[begin:at])
-            self.see_each(lines[at:at + 1])
 
     def see_each(self, lines):
         """Lines one by one."""
@@ -217,36 +231,45 @@ class Station:
             if kind in looks:
                 looks[kind](found, found.string, now)
 
-    def see_run(self, kind, sender, run):
-        """Lines of one sender and one size: at once, where they are of the shape that is known of these, and nothing else changes; else in parts,
-        and one by one. Where it was tried in vain again and again, it is not tried for some lines."""
-        key, number, (failed, waits) = (sender, len(run.lines[0])), len(run.lines), self.tried.get(sender, UNTRIED)
-        if number < FEW or waits > 0:
-            self.tried[sender] = failed, waits - number
-            self.see_lines(kind, run)
-            return
-        shape = self.shapes.get(key) if number <= MOST_TOGETHER else None
-        columns = shape and shape.columns(run.lines, run.until)
-        if columns and self.alike[kind](shape, columns, run):
-            self.tried[sender] = UNTRIED
-        elif number > PARTED and shape is not NONE:
-            for part in run.cut([number // 2 if key in self.shapes else FEW]):
-                self.see_run(kind, sender, part)
-        else:
-            self.see_lines(kind, run)
-            self.shapes[key] = self.shape_of[kind](run.lines[-1], run.until)
-            self.tried[sender] = failed + 1, LINES if failed else 0
+    # ---- Frames of GOOSE -----------------------------------------------------
 
-    def see_lines(self, kind, run):
-        """Lines of one sender one by one."""
-        looks, self.alone = self.looks[kind], self.alone + len(run.lines)
-        for found, now in zip(map(HEAD.match, run.lines), run.times):
-            looks(found, found.string, now)
+    def see_states(self, owner, run, _key, faults):
+        """Frames of GOOSE of one control block, and the places of frames with an error."""
+        parts = run.cut([bisect.bisect(run.places, at) for at in faults]) if faults else [run]
+        for part in parts:
+            if part.lines:
+                self.see_state(owner, part)
 
-    # ---- Frames --------------------------------------------------------------
+    def see_state(self, owner, run):
+        """Frames of GOOSE of one control block between which none with an error comes. Those that go on in the state of the one before are only counted:
+        they are written alike up to their sqNum, and behind it up to their members."""
+        sort, until, number, last = self.going.get(owner), run.until, 0, None
+        goes_on = sort and self.goes_on(sort)
+        for line, now, at in zip(run.lines, run.times, run.places):
+            if goes_on and line.startswith(sort.begin, until) and now >= sort.since:
+                begin = until + len(sort.begin)
+                end = line.find(b",", begin)
+                if end - begin < DIGITS and line.startswith(sort.end, end):
+                    if not number:
+                        self.malformed.between(sort.between, run.first + at)
+                    number, last = number + 1, line
+                    if sort.pace:
+                        sort.pace.see(run.first + at, sort.state, int(line[begin:end]), now, self.times.gaps)
+                    continue
+            if number:
+                sort.add(number, last)
+                number = 0
+            sort = self.going[owner] = self.goose(HEAD.match(line), line, now)
+            goes_on = self.goes_on(sort)
+        if number:
+            sort.add(number, last)
+
+    def goes_on(self, sort):
+        """Whether it is enough to count the next frames, where they go on in the state of the sort. After the last stNum a number can roll over."""
+        return not self.wraps.is_open and not sort.state.endswith(TOP_STATE) and (not sort.sequence or sort.sequence.sort is sort)
 
     def goose(self, found, line, now):
-        """A frame of GOOSE. Only the first frame of a state is looked at whole, and one that comes before it."""
+        """A frame of GOOSE, whose sort is answered. Only the first frame of a state is looked at whole, and one that comes before it."""
         at = found.end()
         until = line.find(b',"t":"', at)
         upto = line.find(b',"sqNum":', until)
@@ -267,41 +290,19 @@ class Station:
             self.wraps.see(sort.record, found, numbers_of(state, line, upto), now)
         if state != sort.state or now < sort.since:
             sort.state, sort.since = state, now
+            sort.begin, sort.end = line[found.start(4):upto + len(b',"sqNum":')], line[flags:line.find(b'"members":', flags)]
             if sort.sequence:
                 sort.sequence.see(found, state)
             if sort.clock:
                 sort.clock.see(found, line, until)
-
-    def shape_of_goose(self, line, begin):
-        """The shape of lines like this one, of which sqNum alone changes. One after which a number can roll over has none."""
-        upto = line.find(b',"sqNum":', begin)
-        until, flags = line.rfind(b',"t":"', begin, upto), line.find(b',"simulation":', upto)
-        key = line[line.index(b",", begin) + 1:until], line[flags + 1:line.find(b',"members":', flags)]
-        state = line[until:upto]
-        return NONE if state.endswith(TOP_STATE) else Shape(self.sorts[key], line, begin, [(upto + len(b',"sqNum":'), flags)], state)
-
-    def states_alike(self, shape, columns, run):
-        """Frames of GOOSE of one state, if nothing else changes with them: whether it is so is answered."""
-        sort, (numbers,) = shape.sort, columns
-        if sort.state != shape.state or min(run.times) < sort.since or (sort.sequence and sort.sequence.sort is not sort):
-            return False
-        if self.wraps.is_open or GREATEST_TEXT in numbers:
-            return False
-        if sort.pace:
-            for packet, number, now in zip(run.packets, map(int, numbers), run.times):
-                sort.pace.see(packet, shape.state, number, now, self.times.gaps)
-        sort.number += len(run.lines)
-        sort.last = HEAD.match(run.lines[-1])
-        if sort.between.count != self.malformed.count:
-            self.malformed.between(sort.between, run.packets[0])
-        return True
+        return sort
 
     def sort_of_goose(self, key, found):
         """A new sort of frames of GOOSE. The clock of a simulated one is not judged."""
         record = json.loads(b"{%s,%s}" % key)
         sort = self.sort(key, Sort(record, found))
         appid, reference = SENDER.findall(key[0])
-        sort.between = self.malformed.of(b',%s,%s,"simulation":%s' % (appid, reference, b"true" if record["simulation"] else b"false"))
+        sort.between = self.malformed.of(b',%s,%s,"simulation":%s' % (appid, reference, b"true" if record["simulation"] else b"false"), int(found[1]))
         if not record["simulation"]:
             own = record["appid"], record["gocbRef"], record["source"]
             sort.sequence, sort.pace = self.sequences.of(record), self.paces.get((record["appid"], record["gocbRef"]))
@@ -311,6 +312,40 @@ class Station:
     def fault(self, found, _line, _now):
         """A frame with an error."""
         self.malformed.see(int(found[1]))
+
+    # ---- Frames of Sampled Values --------------------------------------------
+
+    def see_samples(self, _owner, run, key, _faults):
+        """Frames of Sampled Values of one stream: one by one, where they are sent in several ways. Else as many at once as are of the shape that is
+        known; then a few one by one, of which the last one has the shape that is known then."""
+        if key is None:
+            self.see_lines(run)
+            return
+        at, most = 0, MOST_TOGETHER
+        while at < len(run.lines):
+            part = run.part(at, at + most)
+            number = self.see_alike(self.shapes.get(key), part)
+            most = MOST_TOGETHER if number == len(part.lines) else 2 * FEW
+            if not number:
+                few, number = part.part(0, FEW), min(FEW, len(part.lines))
+                self.see_lines(few)
+                self.shapes[key] = self.shape_of_sampled(few.lines[-1], run.until)
+            at += number
+
+    def see_alike(self, shape, run):
+        """Looks at once at the first of some lines, as many as are of a shape whose sort is the one of its last frame, and whose times are in order. How
+        many these are is answered."""
+        if not shape or self.flows.get(shape.state[0]) is not shape.sort:
+            return 0
+        number = min(shape.alike(run.lines), run.in_order)
+        if number:
+            self.samples_alike(shape, run if number == len(run.lines) else run.part(0, number))
+        return number
+
+    def see_lines(self, run):
+        """Lines of one stream one by one."""
+        for found, now in zip(map(HEAD.match, run.lines), run.times):
+            self.sampled(found, found.string, now)
 
     def sampled(self, found, line, now):
         """A frame of Sampled Values. Those of one envelope mostly are of one sort; smpCnt is looked at once a stretch."""
@@ -336,34 +371,32 @@ class Station:
 
     def shape_of_sampled(self, line, begin):
         """The shape of lines like this one, of which the counts and samples change, and what else does so from frame to frame. One of several
-        streams has none."""
+        streams, or of none, has no shape."""
         until = line.find(b',"asdus":[', begin)
         envelope = line[line.index(b",", begin) + 1:until]
         sort = self.flows[envelope]
-        if len(sort.streams) > 1:
+        if len(sort.streams) != 1:
             return NONE
-        found = list(DIFFERENT.finditer(line, until, line.rfind(b'],"trailer":')))
+        found = [it for it in DIFFERENT.finditer(line, until, line.rfind(b'],"trailer":')) if not it[0].endswith(ABSENT)]
         fields = [it.span(it.lastindex or 0) for it in found]
         return Shape(sort, line, begin, fields, (envelope, *([at for at, it in enumerate(found) if it.lastindex == which] for which in (1, 2))))
 
-    def samples_alike(self, shape, columns, run):
-        """Frames of Sampled Values of one stream, if it is the sort of its last frame: whether it is so is answered."""
-        sort, (envelope, *fields) = shape.sort, shape.state
-        if self.flows.get(envelope) is not sort or list(run.times) != sorted(run.times):
-            return False
-        counts, octets = (columns[at[0]] if len(at) == 1 else list(itertools.chain.from_iterable(zip(*(columns[it] for it in at)))) for at in fields)
-        counts, (_, stream) = list(map(int, counts)), sort.streams[0]
+    def samples_alike(self, shape, run):
+        """Frames of Sampled Values of one stream and of the shape, in the order of their times."""
+        sort, (_, numbers, samples) = shape.sort, shape.state
         sort.number += len(run.lines)
         sort.last = HEAD.match(run.lines[-1])
-        if self.samples:
-            self.samples.see_all(sort, counts, octets, run)
-        each, at = len(fields[0]), 0
+        wave = self.samples and self.samples.wave_at(sort)
+        if wave:
+            columns = shape.columns(run.lines)
+            counts, octets = (list(itertools.chain.from_iterable(zip(*(columns[it] for it in at)))) for at in (numbers, samples))
+            wave.see_all(list(map(int, counts)), octets, run.times, run.packets)
+        (_, stream), first, at = sort.streams[0], shape.fields[numbers[0]], 0
         while at < len(run.times):
             if not 0 <= run.times[at] - sort.since < STRETCH:
                 sort.since = run.times[at]
-                stream.rise.see(sort.since, counts[at * each])
+                stream.rise.see(sort.since, int(run.lines[at][first]))
             at = bisect.bisect_left(run.times, sort.since + STRETCH, at + 1)
-        return True
 
     def sort_of_sampled(self, envelope, asdus, found):
         """The sort of a frame that is not known to be alike the one before."""
@@ -421,7 +454,7 @@ class Station:
         self.sorts.clear()
         self.flows.clear()
         self.shapes.clear()
-        self.tried.clear()
+        self.going.clear()
 
     def add(self, seen, sort, is_simulated, first, last):
         """Adds frames of one sort to their sender."""

@@ -86,22 +86,21 @@ class Times:
         self.last = found
 
     def odd(self, times):
-        """The places of packets one after another whose times are a second or more before or after the greatest one so far."""
-        if self.first is None:
-            return [0]
+        """The places of packets, none of them the first one, whose times are a second or more before or after the greatest one so far."""
         least, greatest = min(times), max(times)
         if max(greatest, self.greatest) - min(least, self.greatest) < SECOND:
             return []
-        ahead = map(operator.sub, times, itertools.accumulate(times, max, initial=self.greatest))
-        return [at for at, it in enumerate(ahead) if not -SECOND < it < SECOND]
+        before = (self.greatest, *times) if self.greatest <= times[0] and times == sorted(times) else itertools.accumulate(times, max, initial=self.greatest)
+        ahead = list(map(operator.sub, times, before))
+        return [at for at, it in enumerate(ahead) if not -SECOND < it < SECOND] if min(ahead) <= -SECOND or max(ahead) >= SECOND else []
 
-    def see_all(self, heads, times):
+    def see_all(self, lines, times):
         """Packets one after another, of which none is odd."""
         least, greatest = min(times), max(times)
         self.least = min(self.least, least or self.least)
         if greatest > self.greatest:
-            self.greatest, self.top = greatest, HEAD.match(heads.lines[times.index(greatest)])
-        self.last = heads.last
+            self.greatest, self.top = greatest, HEAD.match(lines[times.index(greatest)])
+        self.last = HEAD.match(lines[-1])
 
     @property
     def span(self):

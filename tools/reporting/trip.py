@@ -73,7 +73,7 @@ class Trip:
     def __init__(self, asked=None):
         self.packet, self.member = (int(asked), None) if asked and PACKET.fullmatch(asked) else (None, asked)
         self.moments, self.recent, self.rises, self.changed = {}, collections.deque(maxlen=MOST_RECENT), collections.deque(), collections.deque()
-        self.blocks = collections.Counter()
+        self.blocks = {}
 
     def noting(self, parts):
         """The lines of goose show, some at once, of which that of the packet tells the moment."""
@@ -100,7 +100,8 @@ class Trip:
         rises = [path for path, old, new in event.changes if new is True and old is False]
         if self.member:
             self.meet("member", event, [path for path in rises if is_called(event.names.path(path), self.member)])
-        self.meet("name", event, [path for path in rises if event.names.is_trip(path)])
+        if rises:
+            self.meet("name", event, [path for path in rises if event.names.is_trip(path)])
         self.open(event, rises)
         self.count(event)
 
@@ -132,18 +133,21 @@ class Trip:
 
     def count(self, event):
         """The fourth rule: the events of 100 ms, and how many control blocks they are of."""
-        now = event.place.microseconds
-        if not now or not any(isinstance(new, bool) or is_two_bits(new) for _, _, new in event.changes):
+        now, changed, blocks = event.place.microseconds, self.changed, self.blocks
+        if not now or not has_switched(event.changes):
             return
-        while self.changed and not 0 <= now - self.changed[0].place.microseconds <= CLOSE:
-            self.drop(id(self.changed.popleft().block))
-        self.changed.append(event)
-        self.blocks[id(event.block)] += 1
+        while changed and not 0 <= now - changed[0].place.microseconds <= CLOSE:
+            self.drop(id(changed.popleft().block))
+        changed.append(event)
+        block, number = id(event.block), len(blocks)
+        blocks[block] = blocks.get(block, 0) + 1
+        if number == len(blocks):
+            return
         busiest = self.moments.get("busiest")
-        if len(self.blocks) > max(1, busiest.blocks if busiest else 0):
-            first = self.changed[0]
+        if len(blocks) > max(1, busiest.blocks if busiest else 0):
+            first = changed[0]
             busiest = self.moments["busiest"] = Moment(first.place, Cause(first), self.recent)
-            busiest.blocks = len(self.blocks)
+            busiest.blocks = len(blocks)
 
     def drop(self, block):
         self.blocks[block] -= 1
@@ -168,6 +172,14 @@ class Trip:
 
 def is_two_bits(member):
     return isinstance(member, dict) and len(member.get("bits", "")) == 2
+
+
+def has_switched(changes):
+    """Whether a boolean or two bits changed."""
+    for _, _, new in changes:
+        if isinstance(new, bool) or is_two_bits(new):
+            return True
+    return False
 
 
 def is_opening(names, path, old, new):
