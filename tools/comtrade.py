@@ -10,6 +10,8 @@ import math
 import struct
 import sys
 
+from running import Ended
+
 # Lines of .cfg and .hdr, and of .dat in ASCII, end so.
 END = "\r\n"
 # What a missing value is in binary32, its first octet, and the greatest number of 32 bits. All ones are no time stamp.
@@ -168,7 +170,10 @@ def number(value):
 
 def date(moment):
     """A time in microseconds since 1970 as .cfg has it."""
-    return (EPOCH + datetime.timedelta(microseconds=moment)).strftime("%d/%m/%Y,%H:%M:%S.%f")
+    try:
+        return (EPOCH + datetime.timedelta(microseconds=moment)).strftime("%d/%m/%Y,%H:%M:%S.%f")
+    except OverflowError:
+        raise Ended(f"a time of {moment:,} microseconds since 1970 is after the year 9999, and .cfg has four digits for a year") from None
 
 
 def multiplier(most):

@@ -32,7 +32,7 @@ class Digital:
     """A channel of zeros and ones."""
 
     def __init__(self, line, at):
-        number, self.name, _, _, self.normal = line.split(",")
+        number, self.name, self.phase, self.circuit, self.normal = line.split(",")
         assert number == f"{at}" and self.normal in ("0", "1") and len(self.name) <= 128, line
         self.values = []
 

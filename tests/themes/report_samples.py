@@ -4,6 +4,7 @@ import functools
 import math
 import re
 import types
+from fractions import Fraction
 
 from helpers import fault_station
 from helpers.asked_tools import module
@@ -78,7 +79,8 @@ class Inception(Each):
         if not found:
             yield f"no inception is told: {told[:900]}"
             return
-        at = (int(found[1]) - FIRST) % RATE
+        # The sample with this smpCnt that is nearest to the one in which the fault begins.
+        at = self.first + (int(found[1]) - FIRST - self.first + RATE // 2) % RATE - RATE // 2
         if abs(at - self.first) > 1 or found[2] != self.unit or found[4] != self.channel:
             yield f"it begins with sample {at} of {found[2]}, {found[4]}"
         since = BEGIN + at * SECOND // RATE + DELAY - TRIP_AT
@@ -184,6 +186,36 @@ def unsteady(at):
 
 def unit_of(sample, **how):
     return Unit("MU01", 0x4000, 1, sample, **how)
+
+
+# How many samples before the others a longer recording begins: the trip is more than two seconds and ten periods behind its first one.
+EARLIER = 10_000
+
+
+def long_unit(*steps_at):
+    """A unit of a longer recording, whose currents are at times greater: by so many hundredths from one sample up to another one."""
+    def sample(at):
+        current, voltage = line_values(at % 80)
+        factor = 1 + max((part for since, until, part in steps_at if since <= at < until), default=0) / 100
+        return pairs(steps([it * factor for it in current], 0.001) + steps(voltage, 0.01))
+
+    return unit_of(lambda at: sample(at - EARLIER), begin=BEGIN - EARLIER * SECOND // RATE, first=(FIRST - EARLIER) % RATE, samples=EARLIER + 2200)
+
+
+def long_ago():
+    """The time before the fault in longer recordings: two seconds before the trip are looked at, and the ten periods before these tell how samples differ,
+    whatever was before."""
+    # The two seconds begin with sample -6726, and the ten periods before them with -7526.
+    always, trip = EARLIER, lambda unit: f"{sum(at < TRIP_AT for at, _ in sent_of(unit)()) + 1}"
+    for name, channel, first, *told in (
+            ("what was before the ten periods", "I2", FAULT, (-9900, -9800, 80), (FAULT, always, 10)),
+            ("a step 2.3 s before the trip", "I2", FAULT, (-7926, FAULT, 20), (FAULT, always, 40)),
+            ("a fault 1.98 s before the trip", "I2", -6640, (-6640, always, 20))):
+        yield Inception(name, sent_of(long_unit(*told)), channel, "--trip", trip(long_unit(*told)), first=first)
+    for name, *told in (("samples that differed as much within the ten periods before", (-7400, -7300, 10), (FAULT, always, 25)),
+                        ("samples that differed as much shortly before the two seconds", (-6840, -6810, 10), (FAULT, always, 25)),
+                        ("a fault 2.02 s before the trip", (-6806, always, 20))):
+        yield NoInception(name, sent_of(long_unit(*told)), "No fault inception", "--trip", trip(long_unit(*told)))
 
 
 # ---- Pictures and qualities --------------------------------------------------
@@ -306,6 +338,37 @@ class Values:
         return []
 
 
+class Periods(Each):
+    """The RMS of periods that are no whole number of samples: each line has that of its wave, to a part of a sample, for each period of which no sample is
+    missing, where this period was."""
+
+    def __init__(self, rate, frequency, lost=()):
+        self.rate, self.frequency, self.lost, turns = rate, frequency, lost, Fraction(frequency * RATE, rate)
+        unit = unit_of(lambda at: sample_of_line(at - 10 * rate, turns), rate=rate, a_frame=1, first=0, begin=fault_station.START, samples=rate, lost=lost)
+        super().__init__(f"RMS at {rate:,} samples a second and {frequency} Hz{', with a gap' if lost else ''}", lambda: list(unit.packets()),
+                         "--period", f"{rate}")
+
+    def wrong(self, page, _octets):
+        figure = figures(page)[f"MU01: {WHOLE}"]
+        (x0, t0), (x1, t1) = time_labels(figure)
+        time = lambda x: t0 + (x - x0) * (t1 - t0) / (x1 - x0)
+        for at, runs in enumerate(lines(figure)):
+            off = [abs(time(x) - end) for run, ends in zip(runs, self.runs()) for x, end in zip(run, ends)]
+            yield from [] if len(runs) == len(self.runs()) and max(off) < 0.003 else [f"line {at + 1} has the runs {runs}: off by {off}"]
+        for at, points in enumerate(read_lines(figure)):
+            size = (fault_station.AMPERES, fault_station.VOLTS)[at // 4] * (at % 4 < 3) / math.sqrt(2)
+            off = max(abs(value - size) for _, value in points)
+            yield from [] if off <= size * self.frequency / self.rate else [f"line {at + 1} is off by {off:.2f} of {size:.2f}"]
+
+    def runs(self):
+        """When the middles of the first and the last period of each run are."""
+        bound = lambda number: math.ceil(Fraction(number * self.rate, self.frequency))
+        told = [all(it not in self.lost for it in range(bound(number), bound(number + 1))) for number in range(self.frequency)]
+        begins = [number for number in range(self.frequency) if told[number] and (number == 0 or not told[number - 1])]
+        ends = [number for number in range(self.frequency) if told[number] and (number + 1 == self.frequency or not told[number + 1])]
+        return [((one + 0.5) / self.frequency, (other + 0.5) / self.frequency) for one, other in zip(begins, ends)]
+
+
 def scd_of_own():
     """An SCL file in which the first current of MU01 has a scale, an offset and a unit of its own."""
     told = ('<DOI name="AmpSv"><SDI name="sVC"><DAI name="scaleFactor"><Val>0.002</Val></DAI><DAI name="offset"><Val>5000</Val></DAI></SDI>'
@@ -314,9 +377,10 @@ def scd_of_own():
 
 
 def time_labels(figure):
-    """Two labels of the time axis that are far apart: where they are, and their times."""
-    return [(int(it.get("x")), number_of(it.text)) for it in figure.iter("text")
-            if it.get("class") == "scale" and it.get("text-anchor") == "middle"][:-1:4]
+    """Two labels of the time axis that are far apart: where they are, and their times. The last one may be moved, to be within the picture."""
+    told = [(int(it.get("x")), number_of(it.text)) for it in figure.iter("text")
+            if it.get("class") == "scale" and it.get("text-anchor") == "middle"]
+    return told[0], told[-2]
 
 
 def sent(channel, index):
@@ -555,6 +619,7 @@ def cases():
     yield Inception("two streams that tell it", both, "I1", "--trip", f"{sum(at < TRIP_AT for at, _ in both()) + 1}")
     yield Inception("a step of 10 in 100", sent_of(unit_of(step(1.1))), "I2", "--trip", own)
     yield Inception("a step of 8 in 100 at 60 Hz", sent_of(unit_of(small_step)), "I2", "--trip", own)
+    yield from long_ago()
     yield NoInception("a step of 4 in 100", sent_of(unit_of(step(1.04))), "No fault inception", "--trip", own)
     yield NoInception("one wild sample", sent_of(unit_of(one_is_wild)), "No fault inception", "--trip", own)
     yield NoInception("a fault in invalid samples", sent_of(unit_of(doubtful_fault)), "No fault inception", "--trip", own)
@@ -564,6 +629,8 @@ def cases():
     yield Pictures("pictures, as 9-2LE", sent_of(*units()), "--trip", trip)
     yield Drawn("values of lines", sent_of(*units()), scd=fault_station.scd())
     yield Values()
+    for rate, frequency, lost in ((4000, 60, ()), (4000, 60, range(1000, 1100)), (5760, 50, ()), (4800, 60, range(1619, 1620))):
+        yield Periods(rate, frequency, lost)
     yield Scaled("a channel with an offset", sent_of(*units()), scd=scd_of_own())
     yield Labels("names and scales", sent_of(*units()), scd=fault_station.scd())
     yield Labels("names and scales of long names in one unit", sent_of(*units()), scd=long_names())

@@ -95,6 +95,7 @@ svg .inception { stroke: var(--warn); stroke-width: 1.5; } svg .opening { stroke
   .summary li { font-size: 8pt; line-height: 1.25; padding: 0.12rem 0.5rem; margin: 0.1rem 0; }
   .wide .name { display: inline-block; width: max-content; max-width: 14em; } .wide .sender { max-width: 22.5em; }
   .wide [data-of="Reference"] .name, .wide [data-of^="Data set"] .name { width: auto; min-width: 9.4em; max-width: 10.4em; }
+  .wide [data-of="Channels"] .name { width: auto; max-width: 34em; }
   .wide [data-of="First and last"], .wide [data-of^="Beside"] { max-width: 9.6em; } .wide [data-of="Lifetime"] { max-width: 6em; }
   .wide thead th { max-width: 9.6em; } .wide [data-of="Addresses"] { font-size: 7pt; } .legend { break-after: avoid; break-inside: avoid; }
   h2, h3, caption, figcaption { break-after: avoid; } tr, .summary li, figure { break-inside: avoid; } thead { display: table-header-group; break-after: avoid; } thead tr { break-after: avoid; }
