@@ -2,7 +2,7 @@
 import re
 
 from helpers.harness import clipped, first_difference, never_seen, run, text
-from oracles import losses, reading
+from oracles import links, losses, reading
 from oracles.objects import numbers_read
 
 # The words of each command, for frames of the worked block and the worked stream.
@@ -64,17 +64,27 @@ def not_judged(lines):
     return [f"goose losses: {it}" for it in losses.not_judged(keys)]
 
 
-def why_said(asked, lines, status, passed, complained):
-    """What is wrong with the messages of a run: the sentence on what was passed over, and that on streams that were not judged; behind
-    those, where the input ended the run, the place and the name in the last line of its text; of a failing device, that; else which blocks
-    were never seen."""
-    told = complained.decode("utf-8", "replace").splitlines()
-    over = [line for line in told if "passed over: " in line]
+def why_linked(asked, octets, lines):
+    """What is wrong with the sentences on packets of these octets that were not captured on Ethernet."""
+    is_capture = reading.CAPTURE in reading.options_of(asked)[1]
+    wanted = [f"goose {asked[0]}: {it}" for it in links.told(octets)] if is_capture else []
+    return [] if lines == wanted else [f"said {lines}, and not {wanted}"]
+
+
+def why_said(asked, lines, status, passed, complained, octets=None):
+    """What is wrong with the messages of a run: the sentences on what was passed over, on packets of these octets that were not captured on
+    Ethernet, and on streams that were not judged; behind those, where the input ended the run, the place and the name in the last line of
+    its text; of a failing device, that; else which blocks were never seen."""
     # The source that fails is a terminal, on which the program says what it awaits.
+    told = [line for line in complained.decode("utf-8", "replace").splitlines() if ": waiting for a " not in line]
+    over = [line for line in told if "passed over: " in line]
     named = [line for line in told if asked[0] == "losses" and ": not judged: " in line]
-    rest = [line for line in told if line not in over and line not in named and ": waiting for a " not in line]
+    linked = [line for line in told if ": not Ethernet: " in line]
+    rest = [line for line in told if line not in (*over, *linked, *named)]
     why = why_passed(passed, over) if passed and status in (0, 1) else []
     why += [f"said {over}"] if over and not passed else []
+    why += why_linked(asked, octets, linked) if octets is not None and status in (0, 1, 3) else []
+    why += [] if told[:len(over + linked)] == over + linked else [f"said not first {over + linked}: {told}"]
     why += [f"said {named}"] if status in (0, 1) and named != not_judged(lines) else []
     if status in (3, 4):
         number, sort, name = lines[-1].split(" ")
@@ -86,16 +96,16 @@ def why_said(asked, lines, status, passed, complained):
     return why + ([] if rest == unseen else [f"standard error is {rest}, and not {unseen}"])
 
 
-def why_differs(asked, wanted, got, passed=None, written=None):
-    """What is wrong with a run that should have answered these lines and ended with this status. They are written as they are, or in
-    another form."""
+def why_differs(asked, wanted, got, passed=None, written=None, octets=None):
+    """What is wrong with a run over these octets that should have answered these lines and ended with this status. They are written as they
+    are, or in another form."""
     (lines, wanted_status), (wrote, complained, status) = wanted, got
     wanted_text = text(lines if written is None else written)
     is_json = reading.JSON in reading.options_of(asked)[1]
     difference = first_difference(*map(numbers_read, (wanted_text, wrote))) if is_json else first_difference(wanted_text, wrote)
     why = [difference] if difference else []
     why += [f"ended with status {status}, and not {wanted_status}: {clipped(complained)!r}"] if status != wanted_status else []
-    why += [] if why else why_said(asked, lines, status, passed, complained)
+    why += [] if why else why_said(asked, lines, status, passed, complained, octets)
     return [f"{' '.join(asked)}: {it}" for it in why]
 
 
@@ -103,7 +113,7 @@ def why_wrong_of(program, asked, octets, events_of=None):
     """What is wrong with a run over these octets."""
     lines, status, passed = reading.answered(asked, octets, events_of=events_of)
     written = reading.written(asked, lines, octets, events_of=events_of)
-    return why_differs(asked, (lines, status), run(program, asked, octets), passed, written)
+    return why_differs(asked, (lines, status), run(program, asked, octets), passed, written, octets)
 
 
 class Read:

@@ -34,8 +34,16 @@ def events(octets, has_failed=False):
         raise CaptureFault(*fault)
 
 
-def packets(octets, failed=False):
-    """([(number, moment, octets or None)], None or (number, cause)): None in place of octets where only time has passed."""
+def other_links(octets):
+    """The numbers of the packets that were not captured on Ethernet, with the types of their links."""
+    links = []
+    packets(octets, links=links)
+    return links
+
+
+def packets(octets, failed=False, links=None):
+    """([(number, moment, octets or None)], None or (number, cause)): None in place of octets where only time has passed. The link types of
+    packets that were not captured on Ethernet are put to those, if they are wanted."""
     found, end = [], "ReadFailed" if failed else "CaptureShort"
     first, octets = True, memoryview(octets)
     try:
@@ -48,7 +56,7 @@ def packets(octets, failed=False):
                 return found, None
         if octets[:4] != SECTION:
             raise Refused("CaptureHeader")
-        place, settled = 0, {"order": None, "interfaces": [], "moment": 0}
+        place, settled = 0, {"order": None, "interfaces": [], "moment": 0, "links": [] if links is None else links}
         while place < len(octets):
             place += block(octets[place:], settled, found, end, "CaptureHeader" if first else "BlockForm")
             first = False
@@ -124,9 +132,11 @@ def block(octets, settled, found, end, why):
         if len(settled["interfaces"]) > MOST_INTERFACES:
             raise Refused("BlockForm")
     elif kind in (2, 3, 6):
-        moment, held = packet(kind, body, settled)
+        moment, link, held = packet(kind, body, settled)
         settled["moment"] = moment
-        found.append((len(found) + 1, moment, held or None))
+        found.append((len(found) + 1, moment, held if held and link == ETHERNET else None))
+        if link != ETHERNET:
+            settled["links"].append((len(found), link))
     return total
 
 
@@ -182,4 +192,4 @@ def packet(kind, body, settled):
         moment = ticks * 1_000_000 // units + 1_000_000 * it["offset"]
         if not 0 <= moment <= LAST_MOMENT:
             raise Refused("PacketTime")
-    return moment, bytes(body[head:head + captured]) if it["link"] == ETHERNET else b""
+    return moment, it["link"], bytes(body[head:head + captured])

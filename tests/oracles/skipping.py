@@ -1,7 +1,8 @@
 """What --skip-other makes of events, written from docs/FORMATS.md alone: a frame of another EtherType, however long, tells only that time
 has passed, and is counted by its EtherType."""
 
-MOST_KINDS = 16
+from oracles.tallies import Tally
+
 # What the usual names of some EtherTypes have.
 NAMES = {0x0806: "ARP", 0x0800: "IPv4", 0x86DD: "IPv6", 0x88F7: "PTP", 0x88CC: "LLDP", 0x8892: "PROFINET", 0x892F: "HSR", 0x88FB: "PRP",
          0x88A8: "a second VLAN tag: not read"}
@@ -19,11 +20,12 @@ def other_type(octets):
     return None if len(octets) < place + 2 or kind in (0x88B8, 0x88BA) else kind
 
 
-class Skipping:
+class Skipping(Tally):
     """Events of which some are passed over, and how many of each EtherType, with the number of the first."""
 
     def __init__(self, events_of):
-        self.events_of, self.kinds, self.others = events_of, {}, None
+        super().__init__()
+        self.events_of = events_of
 
     def __call__(self, octets, has_failed=False):
         for number, (sort, moment, held) in self.events_of(octets, has_failed):
@@ -33,12 +35,3 @@ class Skipping:
             else:
                 self.count(kind, number)
                 yield number, ("clock", moment, None)
-
-    def count(self, kind, number):
-        """One more of this kind: those of the first sixteen by themselves, and the rest together."""
-        if kind in self.kinds or len(self.kinds) < MOST_KINDS:
-            so_far, first = self.kinds.get(kind, (0, number))
-            self.kinds[kind] = so_far + 1, first
-        else:
-            so_far, first = self.others or (0, number)
-            self.others = so_far + 1, first

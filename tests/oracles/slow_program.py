@@ -6,7 +6,7 @@ import sys
 
 sys.path.insert(0, os.path.dirname(os.path.dirname(os.path.abspath(__file__))))
 from helpers.harness import never_seen, text  # noqa: E402
-from oracles import losses, reading, reference, skipping  # noqa: E402
+from oracles import links, losses, reading, reference, skipping  # noqa: E402
 
 
 def all_octets(descriptor):
@@ -20,7 +20,7 @@ def all_octets(descriptor):
         return bytes(octets), True
 
 
-def said(asked, lines, status, passed, unjudged):
+def said(asked, lines, status, passed, linked, unjudged):
     """What standard error says, of a run whose words are right."""
     if status == 4:
         return ["read or write fault: cannot read: Input/output error"]
@@ -30,8 +30,8 @@ def said(asked, lines, status, passed, unjudged):
         kinds = [f"{count} of {'' if at else 'EtherType '}{kind:04x}{name(kind)}, from {first} on"
                  for at, (kind, (count, first)) in enumerate(passed.kinds.items())]
         rest = [f"{passed.others[0]} of others, from {passed.others[1]} on"] if passed.others else []
-        told.append(f"passed over: {'; '.join(kinds + rest)}")
-    told += [f"goose losses: {it}" for it in losses.not_judged(unjudged)]
+        told.append(f"goose {asked[0]}: passed over: {'; '.join(kinds + rest)}")
+    told += [f"goose {asked[0]}: {it}" for it in linked] + [f"goose losses: {it}" for it in losses.not_judged(unjudged)]
     if status == 3:
         number, sort, name = lines[-1].split(" ")
         place = f"line {number}" if sort == "list" else f"packet {number}" if number != "0" else "header"
@@ -80,8 +80,9 @@ def main(asked):
         return 2
     octets, has_failed = all_octets(reference.LIST_DESCRIPTOR)
     lines, status, passed = reading.answered(asked, octets, has_failed)
+    linked = links.told(octets) if reading.CAPTURE in reading.options_of(asked)[1] else []
     status = status if reference.put(1, reading.written(asked, lines, octets, has_failed)) else 4
-    reference.put(2, said(asked, lines, status, passed, unjudged_of(asked, plain, octets, has_failed)))
+    reference.put(2, said(asked, lines, status, passed, linked, unjudged_of(asked, plain, octets, has_failed)))
     return status
 
 

@@ -127,7 +127,7 @@ class ByChance:
 
     def why_not(self, asked, octets, got):
         lines, status, passed = reading.answered(asked, octets)
-        why = why_differs(asked, (lines, status), got, passed, reading.written(asked, lines, octets))
+        why = why_differs(asked, (lines, status), got, passed, reading.written(asked, lines, octets), octets)
         given = reading.own_words(reading.options_of(asked)[0])[1]
         keys = [key for key in losses.streams(octets, events_of=reading.reader_of(asked)) if losses.period_of(given, key) is None]
         told = [line for line in got[1].decode().splitlines() if ": not judged: " in line]

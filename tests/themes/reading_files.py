@@ -50,7 +50,7 @@ class ByName:
         """What is wrong with a run of these words."""
         plain = meant(asked, self.octets)
         lines, status, passed = reading.answered(plain, self.octets)
-        return why_differs(plain, (lines, status), got, passed, reading.written(plain, lines, self.octets))
+        return why_differs(plain, (lines, status), got, passed, reading.written(plain, lines, self.octets), self.octets)
 
 
 class AsStandardInput:

@@ -80,7 +80,7 @@ class ByName:
             plain = meant(asked, self.octets)
             lines, status, passed = reading.answered(plain, self.octets)
             return why_differs(plain, (lines, status), run(program, [asked[0], "-r", str(path), *asked[1:]], b"not read"), passed,
-                               reading.written(plain, lines, self.octets))
+                               reading.written(plain, lines, self.octets), self.octets)
 
 
 class ByDefinition:

@@ -12,8 +12,9 @@ use Rattle.capture_core.specs.Blocks.{Block, Settled, begins, describes, passes,
 use Rattle.capture_core.specs.computed.OneRead.{IsBlockTold, IsNextBlock, Told, order_of_magic, version_rest}
 use Rattle.capture_core.specs.declared.packet_error.PacketError.{PacketError}
 use Rattle.capture_core.specs.declared.packet_error.PacketError.TheVariants as error
-use Rattle.capture_core.specs.computed.Sections.{IsSaidAs, block_rest}
+use Rattle.capture_core.specs.computed.Sections.{IsCaptured, IsSaidAs, block_rest}
 use Rattle.capture_core.specs.declared.body.Said.{Said}
+use Rattle.capture_core.specs.Packets.{Packet}
 use Rattle.capture_core.specs.declared.body.Said.TheVariants as said
 use Rattle.capture_core.specs.declared.form.OctetOrder.{OctetOrder}
 use Rattle.capture_core.specs.declared.form.OctetOrder.TheVariants.{BigEndian, LittleEndian}
@@ -200,5 +201,14 @@ next_open n s (x ∷ xs) few = next_short Open n s x xs few
 pub said_block : {A : Type 0} (s : Said A) (r : Result Block CaptureCause) → IsSaidAs (Ok s) r → (b : Block) × (r ≡ Ok b) × IsSaidAs (Ok s) (Ok b)
 said_block (said.Begins order) r e = (begins order, e, refl)
 said_block (said.Describes i) r e = (describes i, e, refl)
-said_block (said.Captures v) r (p, e, is) = (captures p, e, (p, refl, is))
+said_block (said.Captures v) r (p, e, is, ethernet) = (captures p, e, (p, refl, is, ethernet))
+said_block (said.CapturesOther moment link) r (p, e, at, of, other) = (captures p, e, (p, refl, at, of, other))
 said_block said.Passes r e = (passes, e, refl)
+
+-- a packet that was captured is what its block says
+pub said_packet : {A : Type 0} (s : Said A) (p : Packet) (r : Result Block CaptureCause) → r ≡ Ok (captures p) → IsCaptured s p → IsSaidAs (Ok s) r
+said_packet (said.Captures v) p r e (is, ethernet) = (p, e, is, ethernet)
+said_packet (said.CapturesOther moment link) p r e (at, of, other) = (p, e, at, of, other)
+said_packet (said.Begins order) p r e is = absurd is
+said_packet (said.Describes i) p r e is = absurd is
+said_packet said.Passes p r e is = absurd is

@@ -8,7 +8,7 @@ use Rattle.list_core.proofs.Readers.{OnlyOpen-none}
 use Rattle.capture_core.specs.Capture.{ended, fault_in, records_of}
 use Rattle.capture_core.specs.Packets.{stopped}
 use Rattle.capture_core.specs.Blocks.{packets_of_blocks}
-use Rattle.capture_core.specs.PacketReader.{AnswersPacket, GivesPacket, KeepsPacket, PacketAnswer, PacketState, TellsPacket, events_behind, number_by, over, packets_from, stage_of}
+use Rattle.capture_core.specs.PacketReader.{AnswersPacket, CountsPacket, GivesPacket, KeepsPacket, PacketAnswer, PacketState, TellsPacket, events_behind, number_by, over, packets_behind, packets_from, stage_of}
 use Rattle.capture_core.specs.computed.Filling.{Fills}
 use Rattle.capture_core.specs.computed.OneRead.{Front, ReadsFront}
 use Rattle.capture_core.specs.computed.Steps.{IsReading}
@@ -79,32 +79,34 @@ module _ (old new : PacketState) (p : Progress) (is : List Interface) (m : ℕ) 
   last_spread : (y : InputEnd) (o : List ℕ) → packets_from old.stage old.answered old.most y o ≡ spread (last_front y (old.answered + 1) o) (λ x size. stopped finished)
   last_spread y o = rw (at, none) (last_is p is m old.answered reading y o)
 
-  pub last_ends : {A : Type 0} → ReadsFront (λ y o. last_front y (old.answered + 1) o) [] old.left old.ending (Err (Some finished)) new.left new.ending → new.stage ≡ over finished → AnswersPacket {A = A} old (Ok None) new
-  last_ends r a = step_ends (λ y o. last_front y (old.answered + 1) o) (λ x y o. stopped finished) old last_spread new r a
+  pub last_ends : {A : Type 0} → ReadsFront (λ y o. last_front y (old.answered + 1) o) [] old.left old.ending (Err (Some finished)) new.left new.ending → new.stage ≡ over finished → new.other_links ≡ old.other_links → AnswersPacket {A = A} old (Ok None) new
+  last_ends r a t = step_ends (λ y o. last_front y (old.answered + 1) o) (λ x y o. stopped finished) old last_spread new r a t
 
-  pub last_fails : {A : Type 0} (f : CaptureFault) → ReadsFront (λ y o. last_front y (old.answered + 1) o) [] old.left old.ending (Err (Some (faulty f))) new.left new.ending → new.stage ≡ over (faulty f) → AnswersPacket {A = A} old (Err (Some f)) new
-  last_fails f r a = step_fails (λ y o. last_front y (old.answered + 1) o) (λ x y o. stopped finished) old last_spread new f r a
+  pub last_fails : {A : Type 0} (f : CaptureFault) → ReadsFront (λ y o. last_front y (old.answered + 1) o) [] old.left old.ending (Err (Some (faulty f))) new.left new.ending → new.stage ≡ over (faulty f) → new.other_links ≡ old.other_links → AnswersPacket {A = A} old (Err (Some f)) new
+  last_fails f r a t = step_fails (λ y o. last_front y (old.answered + 1) o) (λ x y o. stopped finished) old last_spread new f r a t
 
 -- ---- once more how a capture stopped
 
-again : {A : Type 0} (s : PacketState) (answer : PacketAnswer A) → GivesPacket answer s.left s.left [] → KeepsPacket answer s [] s.ending → ((z : InputEnd) (o : List ℕ) → TellsPacket answer (events_behind s z o) (events_behind s z o)) → AnswersPacket s answer s
-again s answer g k t = record {
+again : {A : Type 0} (s : PacketState) (answer : PacketAnswer A) → GivesPacket answer s.left s.left [] → KeepsPacket answer s [] s.ending → ((z : InputEnd) (o : List ℕ) → TellsPacket answer (events_behind s z o) (events_behind s z o)) →
+    ((z : InputEnd) (o : List ℕ) → CountsPacket answer (packets_behind s z o) (packets_behind s z o) s.other_links s.other_links) → AnswersPacket s answer s
+again s answer g k t u = record {
   given = [];
   took = g;
   only_open = OnlyOpen-none s.ending;
   asked = asked_none _ s.ending;
   kept = k;
   reads = λ more y c. t y more;
+  counted = λ more y c. u y more;
 }
 
 pub over_ends : {A : Type 0} (s : PacketState) → s.stage ≡ over finished → AnswersPacket {A = A} s (Ok None) s
-over_ends s e = again s (Ok None) (gave_nothing s.left) tt (λ z o. rw e (refl, refl))
+over_ends s e = again s (Ok None) (gave_nothing s.left) tt (λ z o. rw e (refl, refl)) (λ z o. refl)
 
 pub over_fails : {A : Type 0} (s : PacketState) (f : CaptureFault) → s.stage ≡ over (faulty f) → AnswersPacket {A = A} s (Err (Some f)) s
-over_fails s f e = again s (Err (Some f)) (gave_nothing s.left) tt (λ z o. rw e (refl, refl))
+over_fails s f e = again s (Err (Some f)) (gave_nothing s.left) tt (λ z o. rw e (refl, refl)) (λ z o. refl)
 
 pub over_wants : {A : Type 0} (s : PacketState) → s.stage ≡ over unfinished → AnswersPacket {A = A} s (Err None) s
-over_wants s e = again s (Err None) (gave_nothing s.left) (inr (inr (λ more y c. rw e refl))) (λ z o. rw e refl)
+over_wants s e = again s (Err None) (gave_nothing s.left) (inr (inr (λ more y c. rw e refl))) (λ z o. rw e refl) (λ z o. refl)
 
 -- a reader that reads has the number of the packet before
 pub number_reading : (p : Progress) (n : ℕ) → IsReading p → number_by p n ≡ n

@@ -2,14 +2,15 @@
 use Rattle.std.proofs.Common.{◌≡◌, ℕ, ◌+◌, ◌<◌, ◌≤◌, true, false, ltb, eqb, List, [], ◌∷◌, ◌++◌, length, take, drop, Option, Some, None, Result, Ok, Err, ap, sym, ◌∙◌, refl, arith, append_assoc}
 use Rattle.std.specs.Prelude.{◌*◌, ◌^◌, slice_get, nat_lt, if◌then◌else◌}
 use Rattle.std.proofs.lemmas.List.{length-append, drop_at, take_at}
+use Rattle.std.proofs.lemmas.Bool.{ne_eqb}
 use Rattle.std.proofs.lemmas.Bool.Decides.{nat_tests}
 use Rattle.list_core.specs.declared.device.InputEnd.{InputEnd}
 use Rattle.list_core.specs.declared.device.InputEnd.TheVariants.{Open}
-use Rattle.list_core.specs.declared.event.EventKind.TheVariants.{Frame}
+use Rattle.list_core.specs.declared.event.EventKind.TheVariants.{Clock, Frame}
 use Rattle.list_core.specs.Lines.{unfinished}
 use Rattle.capture_core.specs.Numbers.{number_at}
 use Rattle.capture_core.specs.Capture.{captured_size, cut, fault_in, moment_in_head}
-use Rattle.capture_core.specs.Packets.{Packet, kind_of}
+use Rattle.capture_core.specs.Packets.{Packet, kind_of, other_link}
 use Rattle.capture_core.specs.Interfaces.{moment_after, padded}
 use Rattle.capture_core.specs.Blocks.{Settled, captured_behind, captured_length, captures, head_at, head_on, head_size, interface_number, packet_head, packet_in, packet_moment, ticks_in, within_snapshot}
 use Rattle.capture_core.specs.computed.OneRead.{IsNextEvent, IsRecordEvent, Told, next_record, record_front}
@@ -32,6 +33,15 @@ frame_is link [] e h = absurd (omega (arith, h))
 frame_is link (x ∷ xs) e h =
     let ethernet : eqb link 1 ≡ true = grind (arith, nat_tests) in
     rw ethernet refl
+
+-- a packet on another link is none
+pub clock_is : {A : Type 0} (link : ℕ) (octets : List ℕ) → (link ≡ 1 → ⊥) → Clock ≡ kind_of {A = A} link octets
+clock_is link [] other = refl
+clock_is link (x ∷ xs) other = rw (ne_eqb link 1 other) refl
+
+-- and its number and link are told
+pub other_is : (number link : ℕ) {told : ℕ} → (link ≡ 1 → ⊥) → link ≡ told → (number, told) ∷ [] ≡ other_link number link
+other_is number link other is = rw (sym is, ne_eqb link 1 other) refl
 
 -- ---- packet blocks
 

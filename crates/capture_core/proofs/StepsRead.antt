@@ -7,7 +7,8 @@ use Rattle.list_core.specs.Device.{GivesOctets, OnlyOpen}
 use Rattle.list_core.specs.declared.event.Event.{Event}
 use Rattle.list_core.specs.Lines.{CanFollow, Stop, finished, unfinished, faulty}
 use Rattle.list_core.proofs.Devices.{Gives-from_Consumes}
-use Rattle.capture_core.specs.Packets.{Numbered, Packet, event_of, events_of, put_numbered, stopped}
+use Rattle.tally_core.specs.Tally.{count_all}
+use Rattle.capture_core.specs.Packets.{Numbered, Packet, event_of, events_of, other_link, put_numbered, stopped}
 use Rattle.capture_core.specs.Asked.{OnlyWhile}
 use Rattle.capture_core.specs.PacketReader.{AnswersPacket, BeginsWithFrame, FirstIsFrame, KeepsPacket, NextIsFrame, PacketState, TellsFrameNext, over, events_behind, packets_behind, packets_from}
 use Rattle.capture_core.specs.computed.OneRead.{Front, GivesFront, IsKept, IsKeptWhole, KeepsFront, ReadsFront, ReadsToKeep, Told}
@@ -76,66 +77,71 @@ module _ {X : Type 0} (F : InputEnd → List ℕ → Front X) (others : X → In
 
   module _ (new : PacketState) where
     -- the capture has ended
-    pub step_ends : {A : Type 0} → ReadsFront F [] old.left old.ending (Err (Some finished)) new.left new.ending → new.stage ≡ over finished → AnswersPacket {A = A} old (Ok None) new
-    step_ends r s = record {
+    pub step_ends : {A : Type 0} → ReadsFront F [] old.left old.ending (Err (Some finished)) new.left new.ending → new.stage ≡ over finished → new.other_links ≡ old.other_links → AnswersPacket {A = A} old (Ok None) new
+    step_ends r s k = record {
       given = r.given;
       took = r.took;
       only_open = r.only_open;
       asked = asked_so (Err (Some finished)) new.left new.ending r;
       kept = tt;
       reads = λ more y c. let e = stop_told r.given more y finished (r.stands more y c) in (e, rw s (sym e));
+      counted = λ more y c. k;
     }
 
     -- the capture has a fault
-    pub step_fails : {A : Type 0} (f : CaptureFault) → ReadsFront F [] old.left old.ending (Err (Some (faulty f))) new.left new.ending → new.stage ≡ over (faulty f) → AnswersPacket {A = A} old (Err (Some f)) new
-    step_fails f r s = record {
+    pub step_fails : {A : Type 0} (f : CaptureFault) → ReadsFront F [] old.left old.ending (Err (Some (faulty f))) new.left new.ending → new.stage ≡ over (faulty f) → new.other_links ≡ old.other_links → AnswersPacket {A = A} old (Err (Some f)) new
+    step_fails f r s k = record {
       given = r.given;
       took = r.took;
       only_open = r.only_open;
       asked = asked_so (Err (Some (faulty f))) new.left new.ending r;
       kept = tt;
       reads = λ more y c. let e = stop_told r.given more y (faulty f) (r.stands more y c) in (e, rw s (sym e));
+      counted = λ more y c. k;
     }
 
     -- memory was wanted
-    pub step_wants : {A : Type 0} (told : Told X) (r : ReadsFront F [] old.left old.ending told new.left new.ending) → KeepsPacket {A = A} (Err None) old r.given new.ending → new.stage ≡ over unfinished → AnswersPacket {A = A} old (Err None) new
-    step_wants told r k s = record {
+    pub step_wants : {A : Type 0} (told : Told X) (r : ReadsFront F [] old.left old.ending told new.left new.ending) → KeepsPacket {A = A} (Err None) old r.given new.ending → new.stage ≡ over unfinished → new.other_links ≡ old.other_links → AnswersPacket {A = A} old (Err None) new
+    step_wants told r k s t = record {
       given = r.given;
       took = gave told old.left new.left r.given r.took;
       only_open = r.only_open;
       asked = asked_so told new.left new.ending r;
       kept = k;
       reads = λ more y c. rw s refl;
+      counted = λ more y c. t;
     }
 
     -- it was wanted to keep what stands at the front
     pub step_keeps : {A : Type 0} (K : X → Type 0) → ((x : X) → K x → (y : InputEnd) (o : List ℕ) → TellsFrameNext (events_of {A = A} (others x y o))) → (told : Told X) → told ≡ Err None →
-        ReadsToKeep K F [] old.left old.ending told new.left new.ending → new.stage ≡ over unfinished → AnswersPacket {A = A} old (Err None) new
-    step_keeps {A = A} K frames told none r s =
+        ReadsToKeep K F [] old.left old.ending told new.left new.ending → new.stage ≡ over unfinished → new.other_links ≡ old.other_links → AnswersPacket {A = A} old (Err None) new
+    step_keeps {A = A} K frames told none r s t =
         let begun = subst (λ (t : Told X). KeepsFront K F r.read.given old.ending t new.ending) none r.keeps in
         let still : new.ending ≡ Open = begun.stays ∙ opened old.ending new.ending r.read.given r.read.only_open begun.some in
         let follows = subst (λ (e : InputEnd). CanFollow e begun.more Open) (sym still) tt in
-        step_wants told r.read (inl (λ more y c. kept_told A K frames r.read.given more y (begun.whatever more y c), (begun.more, Open, follows, whole_told A K frames r.read.given begun.more Open begun.whole))) s
+        step_wants told r.read (inl (λ more y c. kept_told A K frames r.read.given more y (begun.whatever more y c), (begun.more, Open, follows, whole_told A K frames r.read.given begun.more Open begun.whole))) s t
 
     -- a packet was read
     pub step_gives : {A : Type 0} (x : X) (n : ℕ) (p : Packet) → ReadsFront F [] old.left old.ending (Ok x) new.left new.ending →
-        ((y : InputEnd) (more : List ℕ) → others x y more ≡ put_numbered (n, p) (packets_from new.stage new.answered new.most y more)) → AnswersPacket {A = A} old (Ok (Some (n, event_of p))) new
-    step_gives x n p r s = record {
+        ((y : InputEnd) (more : List ℕ) → others x y more ≡ put_numbered (n, p) (packets_from new.stage new.answered new.most y more)) → new.other_links ≡ count_all (other_link n p.link_type) old.other_links → AnswersPacket {A = A} old (Ok (Some (n, event_of p))) new
+    step_gives x n p r s k = record {
       given = r.given;
       took = r.took;
       only_open = r.only_open;
       asked = asked_so (Ok x) new.left new.ending r;
       kept = tt;
       reads = λ more y c. ap events_of (thing_told r.given more y x (r.stands more y c) ∙ s y more);
+      counted = λ more y c. (p, refl, thing_told r.given more y x (r.stands more y c) ∙ s y more, k);
     }
 
     -- what was read is no packet
     pub step_passes : (x : X) → ReadsFront F [] old.left old.ending (Ok x) new.left new.ending →
-        ((y : InputEnd) (more : List ℕ) → others x y more ≡ packets_from new.stage new.answered new.most y more) → PassesOver old new
-    step_passes x r s = record {
+        ((y : InputEnd) (more : List ℕ) → others x y more ≡ packets_from new.stage new.answered new.most y more) → new.other_links ≡ old.other_links → PassesOver old new
+    step_passes x r s k = record {
       given = r.given;
       took = r.took;
       only_open = r.only_open;
       asked = λ front rest e c. open_packets front (r.asked front rest e c);
       reads = λ more y c. thing_told r.given more y x (r.stands more y c) ∙ s y more;
+      counted = k;
     }

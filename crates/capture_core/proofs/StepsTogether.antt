@@ -9,9 +9,10 @@ use Rattle.list_core.specs.Device.{OnlyOpen}
 use Rattle.list_core.specs.Lines.{CanFollow}
 use Rattle.list_core.proofs.Devices.{Consumes-append, Consumes-none, Gives-append}
 use Rattle.list_core.proofs.Readers.{CanFollow-given, OnlyOpen-append, OnlyOpen-none}
+use Rattle.tally_core.specs.Tally.{Tally}
 use Rattle.capture_core.specs.Packets.{Numbered, events_of, Packet}
 use Rattle.capture_core.specs.Asked.{OnlyWhile}
-use Rattle.capture_core.specs.PacketReader.{AnswersPacket, GivesPacket, PacketAnswer, PacketState, TellsPacket, packets_behind, KeepsPacket, NextIsFrame, TellsFrameNext}
+use Rattle.capture_core.specs.PacketReader.{AnswersPacket, CountsPacket, GivesPacket, PacketAnswer, PacketState, TellsPacket, packets_behind, KeepsPacket, NextIsFrame, TellsFrameNext}
 use Rattle.capture_core.specs.computed.Steps.{PassesOver}
 use Rattle.capture_core.proofs.Fronts.{asked_none, front_cases}
 
@@ -22,6 +23,9 @@ gives_after (Err f) a b c xs ys p q = Gives-append a b c xs ys p q
 
 tells_from : {A : Type 0} (answer : PacketAnswer A) (a b c : Numbered (Event A)) → a ≡ b → TellsPacket answer b c → TellsPacket answer a c
 tells_from answer a b c e t = rw e t
+
+counts_from : {A : Type 0} (answer : PacketAnswer A) (a b c : Numbered Packet) (s t u : Tally) → a ≡ b → t ≡ s → CountsPacket answer b c t u → CountsPacket answer a c s u
+counts_from answer a b c s t u e k h = rw (e, sym k) h
 
 -- nothing was given behind what was given
 end_behind : (front rest : List ℕ) → [] ≡ front ++ rest → (front ≡ []) × (rest ≡ [])
@@ -77,6 +81,7 @@ passes_none s = record {
   only_open = OnlyOpen-none s.ending;
   asked = asked_none _ s.ending;
   reads = λ more y c. refl;
+  counted = refl;
 }
 
 -- one step behind others
@@ -87,6 +92,7 @@ passes_passes a b c p q = record {
   only_open = OnlyOpen-append a.ending b.ending c.ending p.given q.given p.only_open q.only_open;
   asked = asked_after _ _ p.given q.given a.ending b.ending c.ending p.only_open q.only_open p.asked q.asked (λ f h e. p.reads f Open h ∙ e);
   reads = λ more y f. ap (packets_behind a y) (append_assoc p.given q.given more) ∙ p.reads (q.given ++ more) y (CanFollow-given b.ending c.ending q.given more y q.only_open f) ∙ q.reads more y f;
+  counted = q.counted ∙ p.counted;
 }
 
 -- what is kept behind steps
@@ -127,4 +133,6 @@ passes_answers a b c answer p q = record {
   reads = λ more y f. tells_from answer _ _ _
       (ap events_of (ap (packets_behind a y) (append_assoc p.given q.given more) ∙ p.reads (q.given ++ more) y (CanFollow-given b.ending c.ending q.given more y q.only_open f)))
       (q.reads more y f);
+  counted = λ more y f. counts_from answer _ _ _ _ _ _ (ap (packets_behind a y) (append_assoc p.given q.given more) ∙ p.reads (q.given ++ more) y (CanFollow-given b.ending c.ending q.given more y q.only_open f)) p.counted
+      (q.counted more y f);
 }

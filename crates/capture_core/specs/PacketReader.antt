@@ -9,7 +9,8 @@ use Rattle.list_core.specs.declared.event.EventKind.TheVariants as kinds
 use Rattle.list_core.specs.Device.{GivesOctets, OnlyOpen}
 use Rattle.list_core.specs.Lines.{CanFollow, Stop, WhateverComes, unfinished, finished, faulty}
 use Rattle.capture_core.specs.Capture.{records_of}
-use Rattle.capture_core.specs.Packets.{Packet, Numbered, StopsInside, stopped, put_numbered, events_of, packets_of_records, stop_of}
+use Rattle.tally_core.specs.Tally.{Tally, count_all}
+use Rattle.capture_core.specs.Packets.{Packet, Numbered, StopsInside, stopped, put_numbered, event_of, events_of, other_link, packets_of_records, stop_of}
 use Rattle.capture_core.specs.Blocks.{Settled, describes, next_block, packets_of_blocks}
 use Rattle.capture_core.specs.Asked.{OnlyWhile}
 use Rattle.capture_core.specs.Captured.{captured_packets}
@@ -31,13 +32,15 @@ pub data Stage : Type 0 where
   in_blocks : Settled → Stage
   over : Stop CaptureFault → Stage
 
--- a capture that is being read: what the source has left and how it ends, how many packets were answered, how many records or blocks may still come, and what was read
+-- a capture that is being read: what the source has left and how it ends, how many packets were answered, how many records or blocks may still come, what was read,
+-- and the tally of the packets answered that were not captured on Ethernet, by their link types
 pub record PacketState : Type 0 where
   pub left : Option (List ℕ)
   pub ending : InputEnd
   pub answered : ℕ
   pub most : ℕ
   pub stage : Stage
+  pub other_links : Tally
 
 -- the packets of these octets, behind n packets and what was read, where so many records or blocks may come
 abbrev pub packets_from : Stage → ℕ → ℕ → InputEnd → List ℕ → Numbered Packet
@@ -75,7 +78,7 @@ stage_of progress.GivenUp is m = over unfinished
 
 -- what a reader of packets stands for
 abbrev pub packet_state : {R A : Type 0} → (R → Option (List ℕ)) → (R → InputEnd) → PacketReader R A → PacketState
-packet_state left ending r = record { left = left r.reader; ending = ending r.reader; answered = r.answered; most = r.most; stage = stage_of r.progress r.interfaces.items r.moment }
+packet_state left ending r = record { left = left r.reader; ending = ending r.reader; answered = r.answered; most = r.most; stage = stage_of r.progress r.interfaces.items r.moment; other_links = r.other_links }
 
 -- the number of the packet last answered or refused, by what was read
 abbrev pub number_by : Progress → ℕ → ℕ
@@ -109,6 +112,13 @@ TellsPacket (Ok (Some e)) whole rest = whole ≡ put_numbered e rest
 TellsPacket (Ok None) whole rest = (whole ≡ stopped finished) × (rest ≡ whole)
 TellsPacket (Err (Some f)) whole rest = (whole ≡ stopped (faulty f)) × (rest ≡ whole)
 TellsPacket (Err None) whole rest = rest ≡ stopped unfinished
+
+-- what an answer says of the packets of the capture before it and after it, and of the tally of those not captured on Ethernet: the packet of an event is taken off, and is counted
+-- if it is one of them; after any other answer the tally is as before
+abbrev pub CountsPacket : {A : Type 0} → PacketAnswer A → Numbered Packet → Numbered Packet → Tally → Tally → Type 0
+CountsPacket (Ok (Some e)) whole rest old new = (p : Packet) × (e.1 ≡ event_of p) × (whole ≡ put_numbered (e.0, p) rest) × (new ≡ count_all (other_link e.0 p.link_type) old)
+CountsPacket (Ok None) whole rest old new = new ≡ old
+CountsPacket (Err f) whole rest old new = new ≡ old
 
 -- the octets that a source gave for an answer; only after an event does it tell what is left, if it told it before
 abbrev pub GivesPacket : {A : Type 0} → PacketAnswer A → Option (List ℕ) → Option (List ℕ) → List ℕ → Type 0
@@ -185,3 +195,5 @@ pub record AnswersPacket {A : Type 0} (old : PacketState) (answer : PacketAnswer
   pub kept : KeepsPacket answer old given new.ending
   -- whatever still comes, the answer is what the capture tells first
   pub reads : WhateverComes new.ending (λ z more. TellsPacket answer (events_behind old z (given ++ more)) (events_behind new z more))
+  -- and its packet is counted, if it was not captured on Ethernet
+  pub counted : WhateverComes new.ending (λ z more. CountsPacket answer (packets_behind old z (given ++ more)) (packets_behind new z more) old.other_links new.other_links)

@@ -1,5 +1,6 @@
 -- A capture as packets, each with its number, and how they stop.
 use Rattle.std.specs.Prelude.{◌≡◌, ◌⊎◌, ℕ, Bool, true, false, ◌==◌, List, [], ◌∷◌, map, Option, Some, None, if◌then◌else◌}
+use Rattle.std.specs.List.{flat_map}
 use Rattle.list_core.specs.Items as listed
 use Rattle.list_core.specs.Lines.{Stop, finished, unfinished, faulty}
 use Rattle.list_core.specs.declared.event.Event.{Event}
@@ -67,6 +68,14 @@ event_of p = record { moment = p.moment; kind = kind_of p.link_type p.octets }
 -- the events of packets, with the packets' numbers
 abbrev pub events_of : {A : Type 0} → Numbered Packet → Numbered (Event A)
 events_of l = record { items = map (λ p. (p.0, event_of p.1)) l.items; stop = l.stop }
+
+-- the number of a packet and the type of its link, if that is not Ethernet
+abbrev pub other_link : ℕ → ℕ → List (ℕ × ℕ)
+other_link number link = if link == 1 then [] else (number, link) ∷ []
+
+-- the numbers and link types of those packets that were not captured on Ethernet
+abbrev pub other_links_in : List (ℕ × Packet) → List (ℕ × ℕ)
+other_links_in ps = flat_map (λ p. other_link p.0 p.1.link_type) ps
 
 -- the packet of a record of the classic form, which is on Ethernet
 abbrev pub packet_of_record : CaptureRecord → Packet

@@ -1,10 +1,10 @@
 //! The bodies of blocks: each is read once, and only a frame of it is held.
-ghost use Rattle.std.specs.Prelude.{◌≡◌, ◌==◌, ◌≤◌, ◌-◌, []};
+ghost use Rattle.std.specs.Prelude.{◌≡◌, ◌==◌, ◌≤◌, ◌<◌, ◌-◌, []};
 ghost use Rattle.capture_core.specs.Numbers.{number_at};
 ghost use Rattle.capture_core.specs.Packets.{event_of};
 ghost use Rattle.capture_core.specs.Blocks.{body_said, packet_in, head_size};
 ghost use Rattle.capture_core.specs.computed.Filling.{ReadsKept, ReadsPart};
-ghost use Rattle.capture_core.specs.computed.Sections.{IsFrameHead, IsSaidAs, IsPacketToldAs, TellsFrame, TellsFrameOf, block_rest, settled};
+ghost use Rattle.capture_core.specs.computed.Sections.{IsCaptured, IsFrameHead, IsSaidAs, TellsFrame, TellsFrameOf, block_rest, settled};
 
 use crate::capture_fault::CaptureCause;
 use crate::filling::{Short, Unread, pass, take};
@@ -30,8 +30,10 @@ pub(crate) enum Said<A: Allocator> {
     Begins(OctetOrder),
     /// The section has this interface.
     Describes(Interface),
-    /// A packet was captured, which is this event.
+    /// A packet was captured on Ethernet, which is this event.
     Captures(Event<A>),
+    /// A packet was captured at this moment on a link of this type, which is not Ethernet.
+    CapturesOther { moment: u64, link_type: u16 },
     /// Nothing that is looked at.
     Passes,
 }
@@ -66,29 +68,48 @@ fn read_octets<R: Source, A: Allocator>(
     Ok(octets)
 }
 
-// Reads the captured octets of a packet, and answers its event, which has the octets if it is a frame.
+// Reads the captured octets of a packet on Ethernet, and answers its event, which has the octets if there are any.
 pub(crate) fn read_event<R: Source, A: Allocator + Copy>(
     reader: &mut R,
     alloc: A,
     spare: &mut Option<Event<A>>,
-    head: PacketHead,
+    moment: u64,
+    size: usize,
 ) -> Result<Event<A>, Unread>
-    ensures { ReadsKept (λ e octets. e ≡ event_of (record { moment = head.moment; link_type = head.link_type; octets = octets })) (λ given. (given ≡ []) × IsFrameHead head)
-        head.size (R.left reader.old) (R.ending reader.old) result (R.left reader.new) (R.ending reader.new) }
+    ensures { ReadsKept (λ e octets. e ≡ event_of (record { moment = moment; link_type = 1; octets = octets })) (λ given. (given ≡ []) × (0 < size))
+        size (R.left reader.old) (R.ending reader.old) result (R.left reader.new) (R.ending reader.new) }
 {
-    let moment = head.moment;
-    if head.link_type != ETHERNET || head.size == 0 {
-        pass(reader, head.size)?;
+    if size == 0 {
         return Ok(Event {
             moment,
             kind: EventKind::Clock,
         });
     }
-    let octets = read_octets(reader, memory_of(alloc, spare), head.size)?;
+    let octets = read_octets(reader, memory_of(alloc, spare), size)?;
     Ok(Event {
         moment,
         kind: EventKind::Frame(Octets::from(octets)),
     })
+}
+
+// Reads the captured octets of a packet, and answers what its block says.
+fn read_captured<R: Source, A: Allocator + Copy>(
+    reader: &mut R,
+    alloc: A,
+    spare: &mut Option<Event<A>>,
+    head: PacketHead,
+) -> Result<Said<A>, Unread>
+    ensures { ReadsKept (λ said octets. IsCaptured said (record { moment = head.moment; link_type = head.link_type; octets = octets })) (λ given. (given ≡ []) × IsFrameHead head)
+        head.size (R.left reader.old) (R.ending reader.old) result (R.left reader.new) (R.ending reader.new) }
+{
+    let moment = head.moment;
+    let link_type = head.link_type;
+    if link_type != ETHERNET {
+        pass(reader, head.size)?;
+        return Ok(Said::CapturesOther { moment, link_type });
+    }
+    let event = read_event(reader, alloc, spare, moment, head.size)?;
+    Ok(Said::Captures(event))
 }
 
 // Reads the body of a packet block.
@@ -99,8 +120,8 @@ fn read_packet<R: Source, A: Allocator + Copy>(
     section: Section,
     kind: PacketBlock,
     size: usize,
-) -> Result<Result<Event<A>, CaptureCause>, Unread>
-    ensures { ReadsKept (λ r body. IsPacketToldAs r (packet_in kind (settled section.entry) body)) (TellsFrame (settled section.entry) kind size)
+) -> Result<Result<Said<A>, CaptureCause>, Unread>
+    ensures { ReadsKept (λ r body. IsSaidAs r (packet_in kind (settled section.entry) body)) (TellsFrame (settled section.entry) kind size)
         size (R.left reader.old) (R.ending reader.old) result (R.left reader.new) (R.ending reader.new) }
 {
     let before = head_size(kind);
@@ -113,9 +134,9 @@ fn read_packet<R: Source, A: Allocator + Copy>(
     take(reader, head)?;
     match judge_packet(kind, section, head, size) {
         Ok(found) => {
-            let event = read_event(reader, alloc, spare, found)?;
+            let said = read_captured(reader, alloc, spare, found)?;
             pass(reader, size - before - found.size)?;
-            Ok(Ok(event))
+            Ok(Ok(said))
         }
         Err(cause) => {
             pass(reader, size - before)?;
@@ -152,10 +173,7 @@ fn read_body<R: Source, A: Allocator + Copy>(
             return Ok(Ok(Said::Passes));
         }
     };
-    match read_packet(reader, alloc, spare, section, kind, size)? {
-        Ok(event) => Ok(Ok(Said::Captures(event))),
-        Err(cause) => Ok(Err(cause)),
-    }
+    read_packet(reader, alloc, spare, section, kind, size)
 }
 
 // Reads the total length behind a body, and answers whether it is this one.

@@ -1,5 +1,6 @@
 //! The packets of a capture, one at a time.
 ghost use Rattle.std.specs.Prelude.{◌≡◌, ◌<◌, ◌≤◌, ◌+◌, [], IfOk, IfSome};
+ghost use Rattle.tally_core.specs.Tally.{no_tally};
 
 use crate::block::read_block;
 use crate::body::Said;
@@ -11,8 +12,9 @@ use crate::packet_block::Section;
 use crate::packet_error::PacketError;
 use crate::packet_record::read_packet_record;
 use crate::start::{Start, read_start};
-use list_core::{Event, Source};
+use list_core::{Event, EventKind, Source};
 use std::alloc::{AllocError, Allocator};
+use tally_core::KindTally;
 
 /// The most records or blocks of a capture.
 const MOST: u64 = 999_999_999_999_999_998;
@@ -44,7 +46,8 @@ pub(crate) enum Step<A: Allocator> {
     Answered(Result<Option<Event<A>>, PacketError>),
 }
 
-/// Reads a capture packet by packet, in the classic form of libpcap or in pcapng. It holds the interfaces of one section.
+/// Reads a capture packet by packet, in the classic form of libpcap or in pcapng. It holds the interfaces of one section, and counts the
+/// packets that were not captured on Ethernet.
 #[derive(Drop)]
 pub struct PacketReader<R, A: Allocator> {
     reader: R,
@@ -53,6 +56,7 @@ pub struct PacketReader<R, A: Allocator> {
     moment: u64,
     answered: u64,
     most: u64,
+    other_links: KindTally,
     ghost few: { answered + most ≤ 999999999999999998 },
 }
 
@@ -67,6 +71,7 @@ impl<R: Source, A: Allocator + Copy> PacketReader<R, A> {
         ensures answered { (packet_state R.left R.ending result).answered ≡ 0 }
         ensures stage { (packet_state R.left R.ending result).stage ≡ at_start }
         ensures number { packet_number result ≡ 0 }
+        ensures none { (packet_state R.left R.ending result).other_links ≡ no_tally }
     {
         PacketReader {
             reader,
@@ -75,6 +80,7 @@ impl<R: Source, A: Allocator + Copy> PacketReader<R, A> {
             moment: 0,
             answered: 0,
             most: MOST,
+            other_links: KindTally::new(),
         }
     }
 
@@ -83,6 +89,15 @@ impl<R: Source, A: Allocator + Copy> PacketReader<R, A> {
         ensures left { R.left result ≡ (packet_state R.left R.ending self).left }
         ensures ending { R.ending result ≡ (packet_state R.left R.ending self).ending }
     {
+        self.into_parts().0
+    }
+
+    /// The source as it stands, and how many of the packets answered were not captured on Ethernet.
+    pub fn into_parts(self) -> (R, KindTally)
+        ensures left { R.left result.0 ≡ (packet_state R.left R.ending self).left }
+        ensures ending { R.ending result.0 ≡ (packet_state R.left R.ending self).ending }
+        ensures other_links { result.1 ≡ (packet_state R.left R.ending self).other_links }
+    {
         let PacketReader {
             reader,
             progress: _,
@@ -90,8 +105,16 @@ impl<R: Source, A: Allocator + Copy> PacketReader<R, A> {
             moment: _,
             answered: _,
             most: _,
+            other_links,
         } = self;
-        reader
+        (reader, other_links)
+    }
+
+    /// How many of the packets answered were not captured on Ethernet, by their link types.
+    pub fn other_links(&self) -> &KindTally
+        ensures { result.now ≡ (packet_state R.left R.ending self.now).other_links }
+    {
+        &self.other_links
     }
 
     /// The number of the packet last answered or refused, 0 before the first.
@@ -113,6 +136,7 @@ impl<R: Source, A: Allocator + Copy> PacketReader<R, A> {
         ensures moment { self.new.moment ≡ self.old.moment }
         ensures answered { self.new.answered ≡ self.old.answered }
         ensures most { self.new.most ≡ self.old.most }
+        ensures other_links { self.new.other_links ≡ self.old.other_links }
     {
         self.progress = Progress::Blocks(order);
         self.interfaces.clear();
@@ -222,6 +246,22 @@ impl<R: Source, A: Allocator + Copy> PacketReader<R, A> {
         }
     }
 
+    /// Settles that a packet was captured at this moment on a link of this type, which is not Ethernet: only time has passed.
+    fn settle_other(&mut self, moment: u64, link_type: u16) -> Step<A>
+        requires room { 0 < self.old.most }
+        ensures reader { self.new.reader ≡ self.old.reader }
+        ensures said { Settles self.old (Said.CapturesOther moment link_type) result self.new }
+    {
+        self.moment = moment;
+        self.answered += 1;
+        self.most -= 1;
+        self.other_links.count(self.answered, link_type);
+        Step::Answered(Ok(Some(Event {
+            moment,
+            kind: EventKind::Clock,
+        })))
+    }
+
     /// Settles what a block said.
     fn settle(&mut self, said: Said<A>) -> Step<A>
         requires room { 0 < self.old.most }
@@ -234,6 +274,9 @@ impl<R: Source, A: Allocator + Copy> PacketReader<R, A> {
                 self.answered += 1;
                 self.most -= 1;
                 return Step::Answered(Ok(Some(event)));
+            }
+            Said::CapturesOther { moment, link_type } => {
+                return self.settle_other(moment, link_type);
             }
             Said::Begins(order) => self.begin_section(order),
             Said::Describes(interface) => match self.interfaces.push(interface) {

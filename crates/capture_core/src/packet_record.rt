@@ -3,12 +3,12 @@ ghost use Rattle.std.specs.Prelude.{◌≡◌, [], length};
 ghost use Rattle.capture_core.specs.Packets.{Packet};
 ghost use Rattle.capture_core.specs.computed.OneRead.{IsFramePacket, IsNextEvent, IsRecordEvent, ReadsToKeep, Told, next_record, record_front};
 
-use crate::body::{ETHERNET, read_event};
+use crate::body::read_event;
 use crate::capture_fault::{CaptureCause, cut_in, ended_in};
 use crate::filling::{Filled, Unread, fill};
 use crate::form::CaptureForm;
 use crate::numbers::long_at;
-use crate::packet_block::{LONGEST_PACKET, PacketHead};
+use crate::packet_block::LONGEST_PACKET;
 use crate::packet_error::PacketError;
 use crate::record::moment_in;
 use list_core::{Event, Source};
@@ -31,12 +31,7 @@ fn read_captured<R: Source, A: Allocator + Copy>(
     if size > LONGEST_PACKET {
         return Err(PacketError::Fault(CaptureCause::RecordLength.in_record(number)));
     }
-    let packet = PacketHead {
-        moment: moment_in(form, head),
-        link_type: ETHERNET,
-        size,
-    };
-    match read_event(reader, alloc, spare, packet) {
+    match read_event(reader, alloc, spare, moment_in(form, head), size) {
         Ok(event) => Ok(event),
         Err(Unread::Short) => Err(PacketError::Fault(cut_in(number, reader.ending()))),
         Err(Unread::Memory(error)) => Err(PacketError::Memory(error)),

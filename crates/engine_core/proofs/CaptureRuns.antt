@@ -21,7 +21,7 @@ use Rattle.engine_core.specs.Input.{IsRead, TellsNext}
 use Rattle.engine_core.proofs.InputRuns.{GivenSo}
 
 -- the octets of an answer were given
-gives_packet : {A : Type 0} (answer : PacketAnswer A) (old new : Option (List ℕ)) (given : List ℕ) → GivesPacket answer old new given → GivesOctets old new given
+pub gives_packet : {A : Type 0} (answer : PacketAnswer A) (old new : Option (List ℕ)) (given : List ℕ) → GivesPacket answer old new given → GivesOctets old new given
 gives_packet (Ok (Some e)) old new given g = Gives-from_Consumes old new given g
 gives_packet (Ok None) old new given g = g
 gives_packet (Err f) old new given g = g
@@ -44,7 +44,7 @@ not_given_up Failed octets items h = let e = gives_up Failed _ items (h [] Faile
 
 module _ {A : Type 0} where
   -- the events that it gave
-  gave_taken : (a b : PacketState) (items : List (ℕ × Event A)) → Gave AnswersPacket a items b → TookPackets a items b
+  pub gave_taken : (a b : PacketState) (items : List (ℕ × Event A)) → Gave AnswersPacket a items b → TookPackets a items b
   unfolding Gave
   gave_taken a b [] same = subst (λ s. TookPackets {A = A} a [] s) same (taken_none {A = A} a)
   gave_taken a b (e ∷ es) (next, q, g) = taken_more a next b e es q (gave_taken next b es g)

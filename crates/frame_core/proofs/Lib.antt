@@ -11,8 +11,5 @@ pub mod WrittenSeen
 pub mod ReadingLaws
 pub mod SpelledSpellable
 pub mod StandardFacts
-pub mod Turned
-pub mod PassedCounts
-pub mod Tallies
 pub mod Skipping
 pub mod OtherCauses

@@ -7,7 +7,6 @@ pub mod Memory
 pub mod GooseFrame
 pub mod FrameFault
 pub mod OtherType
-pub mod PassedOver
 pub mod SkipOther
 pub mod Written
 pub mod Laws

@@ -5,8 +5,8 @@ use Rattle.list_core.specs.declared.event.Event.{Event}
 use Rattle.list_core.specs.declared.event.EventKind.{EventKind}
 use Rattle.list_core.specs.declared.event.EventKind.TheVariants.{Frame, Clock, Mode}
 use Rattle.list_core.specs.ReadItems.{AnswerOf, Gave}
+use Rattle.tally_core.specs.Tally.{Tally, count_all, count_one}
 use Rattle.frame_core.specs.OtherType.{other_type}
-use Rattle.frame_core.specs.PassedOver.{Tally, pass_all, pass_one}
 use Rattle.frame_core.specs.declared.skip_other.SkipOther.{SkipOther}
 
 -- the EtherType of the frame of another protocol that happened
@@ -33,7 +33,7 @@ skip_answer (Err f) = Err f
 -- a frame of this number is passed over where it has such an EtherType
 abbrev pub pass_where : ℕ → Option ℕ → Tally → Tally
 pass_where number None a = a
-pass_where number (Some t) a = pass_one number t a
+pass_where number (Some t) a = count_one number t a
 
 -- what is kept of the frame of an answer, if it is passed over
 abbrev pub pass_answer : {A F : Type 0} → AnswerOf (Event A) F → Tally → Tally
@@ -75,4 +75,4 @@ abbrev pub LeavesWhatCame : {I A F : Type 0} → (I → AnswerOf (Event A) F →
 LeavesWhatCame {I = I} {A = A} answers =
     (start end : SkipOther I A) (es : List (ℕ × Event A)) → Gave (Skips answers) start es end
     → (given : List (ℕ × Event A)) × Gave answers (beneath start) given (beneath end) × (es ≡ map skip_numbered given)
-    × (passed_over end ≡ pass_all (passed_in given) (passed_over start))
+    × (passed_over end ≡ count_all (passed_in given) (passed_over start))

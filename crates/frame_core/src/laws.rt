@@ -2,7 +2,6 @@
 
 ghost use Rattle.frame_core.specs.Laws.{FaultIsOne, FitsIsKnown, FrameIsOne, FrameOrFault, PartsMakeTheControl, ReadingIsTrue, ReadingTells, SpelledIsSpellable, WrittenIsSpelled};
 ghost use Rattle.frame_core.specs.OtherType.{OtherIsNoFrame};
-ghost use Rattle.frame_core.specs.PassedOver.{EachIsCounted};
 ghost use Rattle.frame_core.specs.SkipOther.{LeavesWhatCame};
 
 pub use list_core::laws::{
@@ -49,12 +48,6 @@ pub fn parts_make_the_control()
 /// A frame of another protocol, as is passed over, is none of GOOSE or Sampled Values.
 pub fn what_is_passed_over_is_no_frame<A: Allocator>()
     ensures { OtherIsNoFrame A }
-{}
-
-/// Of frames that are passed over, each is counted: for each of at most sixteen EtherTypes there stand how many frames had it and
-/// the number of the first, and for all other frames together, of which there are some only beside sixteen kinds.
-pub fn each_is_counted()
-    ensures { EachIsCounted }
 {}
 
 /// What a reader answers that passes over the frames of other protocols is what is left of the events that the reader beneath

@@ -1,12 +1,12 @@
 //! A reader of events over a reader of events, that passes over the frames of other protocols.
 ghost use Rattle.std.specs.Prelude.{◌≡◌};
-ghost use Rattle.frame_core.specs.PassedOver.{no_tally};
+ghost use Rattle.tally_core.specs.Tally.{no_tally};
 ghost use Rattle.frame_core.specs.SkipOther.{Skips, beneath, pass_where, passed_over, skip_other, type_passed};
 
 use crate::other_type::other_ether_type;
-use crate::passed_over::PassedOver;
 use list_core::{Event, EventKind, ReadError, ReadItems};
 use std::alloc::Allocator;
+use tally_core::KindTally;
 
 /// Reads the events of another reader. Of a frame of another protocol, which its EtherType says, it answers nothing but the
 /// moment, as a clock event, and keeps how many there were.
@@ -15,7 +15,7 @@ pub struct SkipOther<I, A: Allocator> {
     items: I,
     // The frame that was passed over last, for its memory: the clock event that stands for it has none to hand back.
     spare: Option<Event<A>>,
-    passed: PassedOver,
+    passed: KindTally,
 }
 
 // The EtherType of the frame of another protocol that happened.
@@ -37,7 +37,7 @@ impl<I, A: Allocator> SkipOther<I, A> {
         SkipOther {
             items,
             spare: None,
-            passed: PassedOver::new(),
+            passed: KindTally::new(),
         }
     }
 
@@ -49,14 +49,14 @@ impl<I, A: Allocator> SkipOther<I, A> {
     }
 
     /// What was passed over.
-    pub fn passed_over(&self) -> &PassedOver
+    pub fn passed_over(&self) -> &KindTally
         ensures { result.now ≡ passed_over self.now }
     {
         &self.passed
     }
 
     /// The reader whose events they are, and what was passed over.
-    pub fn into_parts(self) -> (I, PassedOver)
+    pub fn into_parts(self) -> (I, KindTally)
         ensures beneath { result.0 ≡ beneath self }
         ensures passed { result.1 ≡ passed_over self }
     {
@@ -77,7 +77,7 @@ impl<I, A: Allocator> SkipOther<I, A> {
         match type_passed(&event.kind) {
             None => event,
             Some(ether_type) => {
-                self.passed.pass(number, ether_type);
+                self.passed.count(number, ether_type);
                 let moment = event.moment;
                 self.spare = Some(event);
                 Event {

@@ -21,6 +21,7 @@ use crate::messages::advice::Advised;
 use crate::messages::block_fields::block_fault;
 use crate::messages::failure::{Failure, Unread};
 use crate::messages::head::{Intake, advice_by_head};
+use crate::messages::links::packets_of_other_links;
 use crate::messages::passed::passed_frames;
 use crate::messages::period::NoPeriod;
 use crate::messages::unheard::Unheard;
@@ -30,12 +31,12 @@ use crate::output::Output;
 use crate::patient::Patient;
 use clap::error::ErrorKind as WordsErrorKind;
 use engine_core::{Ending, status};
-use frame_core::PassedOver;
 use list_core::{FromRead, ToWrite};
 use std::alloc::{AllocError, Global};
 use std::io::{BufReader, ErrorKind, IsTerminal};
 use std::process::ExitCode;
 use std::{env, io};
+use tally_core::KindTally;
 use task_engine::{Notes, Performed, Told, Unjudged, perform};
 use words_core::{Options, Request, Task, WordsError, read_request};
 
@@ -278,9 +279,17 @@ fn say_unheard(rt: &HostRuntime, words: &[&str], heard: &[bool]) {
 
 // Says which frames of other protocols were passed over, if any were.
 #[inline(never)]
-fn say_passed(rt: &HostRuntime, command: &str, passed: &PassedOver) {
+fn say_passed(rt: &HostRuntime, command: &str, passed: &KindTally) {
     if let Some(passed) = passed_frames(passed) {
         let _ = eprintln!(Console::of(rt); "goose {command}: {passed}");
+    }
+}
+
+// Says which packets were not captured on Ethernet, if any were not.
+#[inline(never)]
+fn say_links(rt: &HostRuntime, command: &str, links: &KindTally) {
+    if let Some(links) = packets_of_other_links(links) {
+        let _ = eprintln!(Console::of(rt); "goose {command}: {links}");
     }
 }
 
@@ -351,6 +360,7 @@ fn run_over(
         ending,
         told,
         passed,
+        other_links,
         reader: _,
     } = perform(
         rt.alloc(),
@@ -368,6 +378,9 @@ fn run_over(
     }
     if let Some(passed) = &passed {
         say_passed(rt, command, passed);
+    }
+    if let Some(links) = &other_links {
+        say_links(rt, command, links);
     }
     say_unjudged(rt, command, &notes.unjudged);
     match told {

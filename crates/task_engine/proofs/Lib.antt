@@ -1,4 +1,5 @@
 pub mod UnwrappedReads
 pub mod EventTaskLemmas
 pub mod PassedLemmas
+pub mod LinkLemmas
 pub mod AsBefore

@@ -17,12 +17,13 @@ use Rattle.list_core.specs.ItemReader.{Answer, AnswersItem, ReaderState, item_st
 use Rattle.list_core.specs.Items.{Listing, Numbered, items_said, listing, put_items}
 use Rattle.list_core.specs.Lines.{reading}
 use Rattle.list_core.specs.ReadItems.{AnswerOf, Gave}
+use Rattle.tally_core.specs.Tally.{Tally, count_all, no_tally}
+use Rattle.tally_core.proofs.Tallies.{count_append}
 use Rattle.capture_core.specs.declared.capture_fault.CaptureFault.{CaptureFault}
 use Rattle.capture_core.specs.declared.packet_reader.PacketReader.{PacketReader}
 use Rattle.capture_core.specs.Captured.{captured_events}
 use Rattle.capture_core.specs.PacketReader.{AnswersPacket, PacketAnswer, PacketState, at_start, packet_state}
 use Rattle.frame_core.specs.declared.skip_other.SkipOther.{SkipOther}
-use Rattle.frame_core.specs.PassedOver.{Tally, no_tally, pass_all}
 use Rattle.frame_core.specs.SkipOther.{Skips, beneath, pass_answer, pass_where, passed_in, passed_over, passed_where, skip_answer, type_passed}
 use Rattle.frame_core.proofs.Skipping.{leaves_what_came}
 use Rattle.unwrap_core.specs.UnwrapEvents.{UnwrapsEach, under, unwrap_where}
@@ -55,11 +56,11 @@ use Rattle.task_engine.proofs.EventTaskLemmas.{task_any}
 use Rattle.task_engine.proofs.UnwrappedReads.{BeginsCapture, BeginsList, capture_reads, lines, list_reads, packets, unwrapped_read}
 
 -- a task read its events: those that it was given, and one answer behind them, which tells how the input stops if all was read
-record Reads {I C F : Type 0} (reader : Reader I (Event Global) C F) (start end : I) (ending : Ending) : Type 0 where
-  items : List (ℕ × Event Global)
-  answer : AnswerOf (Event Global) F
-  gave : GaveThen reader start end items answer
-  all : ReadsAll ending → AtStop answer
+pub record Reads {I C F : Type 0} (reader : Reader I (Event Global) C F) (start end : I) (ending : Ending) : Type 0 where
+  pub items : List (ℕ × Event Global)
+  pub answer : AnswerOf (Event Global) F
+  pub gave : GaveThen reader start end items answer
+  pub all : ReadsAll ending → AtStop answer
 
 module _ {X C F : Type 0} (faults : Faults C F) (t : Allowed X C F) (none : (before : List (ℕ × X)) (e : ℕ × X) (why : C) → t.of_item before e (Err why) → ⊥) where
   -- the text that a fault closes is the last one of the input, where no item is refused
@@ -86,7 +87,7 @@ module _ {X C F : Type 0} (faults : Faults C F) (t : Allowed X C F) (none : (bef
   ]
 
 module _ {I C F : Type 0} (reader : Reader I (Event Global) C F) (last : FaultText F) (start : I) (stopped : Stopped I (ReplayStop F)) (style : Style) (old new : Option (List ℕ)) where
-  abbrev Either : Type 0
+  abbrev pub Either : Type 0
   Either = (stopped.reader ≡ start) ⊎ Reads reader start stopped.reader stopped.ending
 
   reads_by : (fault : Option F) (allows : Form → EventAllows Global) → RunsOver reader (over_in style allows last) start (stopped_at stopped.ending fault stopped.reader) old new → Either
@@ -112,47 +113,43 @@ module _ {I C F : Type 0} (reader : Reader I (Event Global) C F) (last : FaultTe
   ]
 
   -- a task leaves its reader untouched, or reads
-  reads : (work : Work) → OverWrites style work reader last start stopped old new → Either
+  pub reads : (work : Work) → OverWrites style work reader last start stopped old new → Either
   reads work w = task_any style (left_over style reader last start stopped old new) stopped.ending stopped.fault old new reads_by reads_losses (λ u e. inl u) work.manner work.asked w
 
 -- ---- what is kept
 
-take_front : {X : Type 0} (xs ys : List X) → take (length xs) (xs ++ ys) ≡ xs
+pub take_front : {X : Type 0} (xs ys : List X) → take (length xs) (xs ++ ys) ≡ xs
 take_front [] ys = refl
 take_front (x ∷ xs) ys = ap (λ (l : List _). x ∷ l) (take_front xs ys)
 
-pass_more : (fs gs : List (ℕ × ℕ)) (a : Tally) → pass_all (fs ++ gs) a ≡ pass_all gs (pass_all fs a)
-pass_more [] gs a = refl
-pass_more (f ∷ fs) gs a = pass_more fs gs _
-
-pass_last : (n : ℕ) (o : Option ℕ) (a : Tally) → pass_where n o a ≡ pass_all (passed_where n o ++ []) a
+pass_last : (n : ℕ) (o : Option ℕ) (a : Tally) → pass_where n o a ≡ count_all (passed_where n o ++ []) a
 pass_last n None a = refl
 pass_last n (Some t) a = refl
 
 -- frames of other protocols among these events and one more
-passed_push : (es : List (ℕ × Event Global)) (e : ℕ × Event Global) (a : Tally) → pass_where e.0 (type_passed e.1.kind) (pass_all (passed_in es) a) ≡ pass_all (passed_in (es ++ e ∷ [])) a
+passed_push : (es : List (ℕ × Event Global)) (e : ℕ × Event Global) (a : Tally) → pass_where e.0 (type_passed e.1.kind) (count_all (passed_in es) a) ≡ count_all (passed_in (es ++ e ∷ [])) a
 passed_push es e a =
-    pass_last e.0 (type_passed e.1.kind) (pass_all (passed_in es) a) ∙ sym (pass_more (passed_in es) (passed_in (e ∷ [])) a)
-    ∙ ap (λ (fs : List (ℕ × ℕ)). pass_all fs a) (sym (flat_map-append (λ (x : ℕ × Event Global). passed_where x.0 (type_passed x.1.kind)) es (e ∷ [])))
+    pass_last e.0 (type_passed e.1.kind) (count_all (passed_in es) a) ∙ sym (count_append (passed_in es) (passed_in (e ∷ [])) a)
+    ∙ ap (λ (fs : List (ℕ × ℕ)). count_all fs a) (sym (flat_map-append (λ (x : ℕ × Event Global). passed_where x.0 (type_passed x.1.kind)) es (e ∷ [])))
 
-stop_left : {F : Type 0} (raw : AnswerOf (Event Global) F) → AtStop (skip_answer raw) → AtStop raw
+pub stop_left : {F : Type 0} (raw : AnswerOf (Event Global) F) → AtStop (skip_answer raw) → AtStop raw
 stop_left (Ok None) h = tt
 stop_left (Ok (Some e)) h = h
 stop_left (Err (Some f)) h = tt
 stop_left (Err None) h = h
 
 -- these are all events
-at_end : {F : Type 0} (l : Numbered (Event Global) F) (es : List (ℕ × Event Global)) (ending : Ending) (Far : ℕ → Type 0) (tally : Tally) → l.items ≡ es → Far (length es) → tally ≡ pass_all (passed_in es) no_tally → PassesOver l ending Far tally
+at_end : {F : Type 0} (l : Numbered (Event Global) F) (es : List (ℕ × Event Global)) (ending : Ending) (Far : ℕ → Type 0) (tally : Tally) → l.items ≡ es → Far (length es) → tally ≡ count_all (passed_in es) no_tally → PassesOver l ending Far tally
 at_end l es ending Far tally same far is = record {
   read = length es;
   all = λ r. let sizes = ap length same in omega (arith, sizes);
   far = far;
-  is_tally = is ∙ ap (λ (xs : List (ℕ × Event Global)). pass_all (passed_in xs) no_tally) (sym (ap (take (length es)) (same ∙ sym (append-nil es)) ∙ take_front es []));
+  is_tally = is ∙ ap (λ (xs : List (ℕ × Event Global)). count_all (passed_in xs) no_tally) (sym (ap (take (length es)) (same ∙ sym (append-nil es)) ∙ take_front es []));
 }
 
 -- behind these events the next answer was this, and so much is kept
 passes_by : {F : Type 0} (l : Numbered (Event Global) F) (es : List (ℕ × Event Global)) (raw : AnswerOf (Event Global) F) (ending : Ending) (Far : ℕ → Type 0) (tally : Tally) → SaysFirst l es raw → (ReadsAll ending → AtStop raw) →
-    Far (length es) → Far (length es + 1) → tally ≡ pass_answer raw (pass_all (passed_in es) no_tally) → PassesOver l ending Far tally
+    Far (length es) → Far (length es + 1) → tally ≡ pass_answer raw (count_all (passed_in es) no_tally) → PassesOver l ending Far tally
 passes_by {F} l es (Ok (Some e)) ending Far tally first all far more is =
     let items : l.items ≡ (es ++ e ∷ []) ++ first.2.0.items =
     ap (λ (m : Numbered (Event Global) F). m.items) first.1 ∙ ap (λ (m : Numbered (Event Global) F). es ++ m.items) first.2.1 ∙ sym (append_assoc es (e ∷ []) first.2.0.items) in
@@ -160,7 +157,7 @@ passes_by {F} l es (Ok (Some e)) ending Far tally first all far more is =
       read = length (es ++ e ∷ []);
       all = λ r. absurd (all r);
       far = subst Far (sym (length-append es (e ∷ []))) more;
-      is_tally = is ∙ passed_push es e no_tally ∙ ap (λ (xs : List (ℕ × Event Global)). pass_all (passed_in xs) no_tally) (sym (ap (take (length (es ++ e ∷ []))) items ∙ take_front (es ++ e ∷ []) first.2.0.items));
+      is_tally = is ∙ passed_push es e no_tally ∙ ap (λ (xs : List (ℕ × Event Global)). count_all (passed_in xs) no_tally) (sym (ap (take (length (es ++ e ∷ []))) items ∙ take_front (es ++ e ∷ []) first.2.0.items));
     }
 passes_by {F} l es (Ok None) ending Far tally first all far more is = at_end l es ending Far tally (ap (λ (m : Numbered (Event Global) F). m.items) first.1 ∙ ap (λ (m : Numbered (Event Global) F). es ++ m.items) first.2 ∙ append-nil es) far is
 passes_by {F} l es (Err (Some f)) ending Far tally first all far more is = at_end l es ending Far tally (ap (λ (m : Numbered (Event Global) F). m.items) first.1 ∙ ap (λ (m : Numbered (Event Global) F). es ++ m.items) first.2 ∙ append-nil es) far is
@@ -168,7 +165,7 @@ passes_by {F} l es (Err None) ending Far tally first all far more is = record {
   read = length es;
   all = λ r. absurd (all r);
   far = far;
-  is_tally = is ∙ ap (λ (xs : List (ℕ × Event Global)). pass_all (passed_in xs) no_tally) (sym (ap (take (length es)) (ap (λ (m : Numbered (Event Global) F). m.items) first.1) ∙ take_front es first.0.items));
+  is_tally = is ∙ ap (λ (xs : List (ℕ × Event Global)). count_all (passed_in xs) no_tally) (sym (ap (take (length es)) (ap (λ (m : Numbered (Event Global) F). m.items) first.1) ∙ take_front es first.0.items));
 }
 
 -- nothing was read
@@ -176,7 +173,7 @@ passes_none : {F : Type 0} (l : Numbered (Event Global) F) (ending : Ending) (Fa
 passes_none l ending Far tally none far is = at_end l [] ending Far tally none far is
 
 -- where nothing was read of a capture, or of a list
-none_in_capture : (n : ℕ) → ReachesInCapture [] n
+pub none_in_capture : (n : ℕ) → ReachesInCapture [] n
 none_in_capture n [] rest parts some = absurd (some (sym parts))
 none_in_capture n (x ∷ front) rest parts some = absurd (cc)
 
@@ -232,7 +229,7 @@ module _ {R : Type 0} (left : R → Option (List ℕ)) (told : R → InputEnd) (
               passes_by _ came.0 g.answered.given stopped.ending (ReachesInCapture read.0) (passed_over stopped.reader) (read.2.onward, read.2.says, read.2.tells)
                   (λ a. stop_left g.answered.given (subst (λ (x : AnswerOf (Event Global) CaptureFault). AtStop x) g.answered.left (r.all a)))
                   far (λ front rest parts some. let few = far front rest parts some in omega (arith, few))
-                  (g.answered.kept ∙ ap (λ (t : Tally). pass_answer g.answered.given t) (came.3 ∙ ap (λ (t : Tally). pass_all (passed_in came.0) t) none)),
+                  (g.answered.kept ∙ ap (λ (t : Tally). pass_answer g.answered.given t) (came.3 ∙ ap (λ (t : Tally). count_all (passed_in came.0) t) none)),
             )
       ]
 
@@ -260,6 +257,6 @@ module _ {R : Type 0} (left : R → Option (List ℕ)) (told : R → InputEnd) (
               passes_by _ came.0 g.answered.given stopped.ending (ReachesInList z read.0) (passed_over stopped.reader) (read.2.onward, read.2.says, read.2.tells)
                   (λ a. stop_left g.answered.given (subst (λ (x : AnswerOf (Event Global) (ItemFault ListCause)). AtStop x) g.answered.left (r.all a)))
                   (subst (λ (n : ℕ). ReachesInList z read.0 n) many far.0) (subst (λ (n : ℕ). ReachesInList z read.0 (n + 1)) many far.1)
-                  (g.answered.kept ∙ ap (λ (t : Tally). pass_answer g.answered.given t) (came.3 ∙ ap (λ (t : Tally). pass_all (passed_in came.0) t) none)),
+                  (g.answered.kept ∙ ap (λ (t : Tally). pass_answer g.answered.given t) (came.3 ∙ ap (λ (t : Tally). count_all (passed_in came.0) t) none)),
             )
       ]

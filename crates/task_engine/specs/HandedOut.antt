@@ -1,4 +1,4 @@
--- What a task hands out beside what it leaves: the fault that is told, and the frames of other protocols that it passed over.
+-- What a task hands out beside what it leaves: the fault that is told, the frames of other protocols that it passed over, and the packets that were not captured on Ethernet.
 use Rattle.std.specs.Prelude.{◌≡◌, ◌≢◌, ◌⊎◌, ◌≤◌, ◌-◌, ◌&&◌, ℕ, Bool, true, false, List, [], ◌++◌, length, take, Option, Some, None, option_map, ⊤}
 use Rattle.std.specs.Global.{Global}
 use Rattle.list_core.specs.declared.device.InputEnd.{InputEnd}
@@ -8,8 +8,9 @@ use Rattle.list_core.specs.declared.event_lines.EventLines.TheVariants.{First}
 use Rattle.list_core.specs.Device.{GivesOctets}
 use Rattle.list_core.specs.EventLine.{event_rules}
 use Rattle.list_core.specs.Items.{Numbered, listing}
-use Rattle.capture_core.specs.Captured.{captured_events}
-use Rattle.frame_core.specs.PassedOver.{Tally, no_tally, pass_all}
+use Rattle.tally_core.specs.Tally.{Tally, count_all, no_tally}
+use Rattle.capture_core.specs.Captured.{captured_events, captured_packets}
+use Rattle.capture_core.specs.Packets.{Packet, other_links_in}
 use Rattle.frame_core.specs.SkipOther.{passed_in}
 use Rattle.unwrap_core.specs.UnwrapEvents.{unwrap_where}
 use Rattle.engine_core.specs.declared.ending.Ending.{Ending}
@@ -41,7 +42,7 @@ pub record PassesOver {F : Type 0} (l : Numbered (Event Global) F) (ending : End
   pub read : ℕ
   pub all : ReadsAll ending → length l.items ≤ read
   pub far : ReachesFar read
-  pub is_tally : tally ≡ pass_all (passed_in (take read l.items)) no_tally
+  pub is_tally : tally ≡ count_all (passed_in (take read l.items)) no_tally
 
 -- so many events are all that the octets read of a capture tell before the last octet
 abbrev pub ReachesInCapture : List ℕ → ℕ → Type 0
@@ -70,3 +71,25 @@ PassesWhere false unwraps is_capture ending z left after passed = passed ≡ Non
 -- The frames of other protocols that are handed out are those among the events that were read, where they are passed over.
 abbrev pub RequestPasses : Options → Asked → Ending → InputEnd → Option (List ℕ) → Option (List ℕ) → Option Tally → Type 0
 RequestPasses options asked ending z left after passed = PassesWhere (takes_options asked && options.skips_other) options.unwraps options.is_capture ending z left after passed
+
+-- ---- the packets that were not captured on Ethernet
+
+-- What is kept of the link types, other than Ethernet, of the first packets of a capture, as many as were read: all, unless writing failed or memory was refused; and never fewer than reach so far.
+pub record CountsLinks {F : Type 0} (l : Numbered Packet F) (ending : Ending) (ReachesFar : ℕ → Type 0) (tally : Tally) : Type 0 where
+  pub read : ℕ
+  pub all : ReadsAll ending → length l.items ≤ read
+  pub far : ReachesFar read
+  pub is_tally : tally ≡ count_all (other_links_in (take read l.items)) no_tally
+
+-- octets that the reader gave are a capture of which that is kept
+abbrev pub LinksGiven : Ending → InputEnd → Option (List ℕ) → Option (List ℕ) → Tally → Type 0
+LinksGiven ending z left after tally = (given : List ℕ) × GivesOctets left after given × CountsLinks (captured_packets z given) ending (ReachesInCapture given) tally
+
+-- what is handed out of the packets that were not captured on Ethernet: that, where a capture is read, and else nothing
+abbrev pub LinksWhere : Bool → Ending → InputEnd → Option (List ℕ) → Option (List ℕ) → Option Tally → Type 0
+LinksWhere true ending z left after links = (tally : Tally) × (links ≡ Some tally) × LinksGiven ending z left after tally
+LinksWhere false ending z left after links = links ≡ None
+
+-- The packets that are handed out as not captured on Ethernet are those among the packets that were read, where events of a capture are.
+abbrev pub RequestLinks : Options → Asked → Ending → InputEnd → Option (List ℕ) → Option (List ℕ) → Option Tally → Type 0
+RequestLinks options asked ending z left after links = LinksWhere (takes_options asked && options.is_capture) ending z left after links

@@ -6,7 +6,7 @@ ghost use Rattle.list_core.specs.Device.{GivesOctets};
 ghost use Rattle.engine_core.specs.declared.ending.Ending.{Ending};
 ghost use Rattle.engine_core.specs.Ending.{is_write_fault};
 ghost use Rattle.task_engine.specs.EventTasks.{ended};
-ghost use Rattle.task_engine.specs.HandedOut.{PassesWhere, stop_of};
+ghost use Rattle.task_engine.specs.HandedOut.{LinksWhere, PassesWhere, stop_of};
 ghost use Rattle.task_engine.specs.InputText.{InputTells};
 ghost use Rattle.task_engine.specs.RequestText.{EventsWrite, style_of};
 
@@ -37,6 +37,7 @@ fn over_list<T: EventTask, R: Source, W: Sink>(
     ensures text { (given : List ℕ) × GivesOctets (R.left reader) (R.left result.reader) given
         × InputTells false unwraps false style (T.asked task) (ended result.ending (R.ending result.reader) given (W.contents writer.old) (W.contents writer.new)) (stop_of result.told) }
     ensures passed { PassesWhere false unwraps false result.ending (R.ending result.reader) (R.left reader) (R.left result.reader) result.passed }
+    ensures links { LinksWhere false result.ending (R.ending result.reader) (R.left reader) (R.left result.reader) result.other_links }
     ensures read_fault { result.ending ≡ Ending.ReadFault → R.ending result.reader ≡ InputEnd.Failed }
     ensures fault { W.failed writer.new ≡ is_write_fault result.ending }
 {
@@ -58,6 +59,7 @@ fn over_capture<T: EventTask, R: Source, W: Sink>(
     ensures text { (given : List ℕ) × GivesOctets (R.left reader) (R.left result.reader) given
         × InputTells true unwraps false style (T.asked task) (ended result.ending (R.ending result.reader) given (W.contents writer.old) (W.contents writer.new)) (stop_of result.told) }
     ensures passed { PassesWhere false unwraps true result.ending (R.ending result.reader) (R.left reader) (R.left result.reader) result.passed }
+    ensures links { LinksWhere true result.ending (R.ending result.reader) (R.left reader) (R.left result.reader) result.other_links }
     ensures read_fault { result.ending ≡ Ending.ReadFault → R.ending result.reader ≡ InputEnd.Failed }
     ensures fault { W.failed writer.new ≡ is_write_fault result.ending }
 {
@@ -79,6 +81,7 @@ fn over_passed_capture<T: EventTask, R: Source, W: Sink>(
     ensures text { (given : List ℕ) × GivesOctets (R.left reader) (R.left result.reader) given
         × InputTells true unwraps true style (T.asked task) (ended result.ending (R.ending result.reader) given (W.contents writer.old) (W.contents writer.new)) (stop_of result.told) }
     ensures passed { PassesWhere true unwraps true result.ending (R.ending result.reader) (R.left reader) (R.left result.reader) result.passed }
+    ensures links { LinksWhere true result.ending (R.ending result.reader) (R.left reader) (R.left result.reader) result.other_links }
     ensures read_fault { result.ending ≡ Ending.ReadFault → R.ending result.reader ≡ InputEnd.Failed }
     ensures fault { W.failed writer.new ≡ is_write_fault result.ending }
 {
@@ -100,6 +103,7 @@ fn over_passed_list<T: EventTask, R: Source, W: Sink>(
     ensures text { (given : List ℕ) × GivesOctets (R.left reader) (R.left result.reader) given
         × InputTells false unwraps true style (T.asked task) (ended result.ending (R.ending result.reader) given (W.contents writer.old) (W.contents writer.new)) (stop_of result.told) }
     ensures passed { PassesWhere true unwraps false result.ending (R.ending result.reader) (R.left reader) (R.left result.reader) result.passed }
+    ensures links { LinksWhere false result.ending (R.ending result.reader) (R.left reader) (R.left result.reader) result.other_links }
     ensures read_fault { result.ending ≡ Ending.ReadFault → R.ending result.reader ≡ InputEnd.Failed }
     ensures fault { W.failed writer.new ≡ is_write_fault result.ending }
 {
@@ -133,6 +137,7 @@ pub fn over_events<T: EventTask, R: Source, W: Sink>(
     ensures text { (given : List ℕ) × GivesOctets (R.left reader) (R.left result.reader) given
         × EventsWrite options (T.asked task) (ended result.ending (R.ending result.reader) given (W.contents writer.old) (W.contents writer.new)) (stop_of result.told) }
     ensures passed { PassesWhere options.skips_other options.unwraps options.is_capture result.ending (R.ending result.reader) (R.left reader) (R.left result.reader) result.passed }
+    ensures links { LinksWhere options.is_capture result.ending (R.ending result.reader) (R.left reader) (R.left result.reader) result.other_links }
     ensures read_fault { result.ending ≡ Ending.ReadFault → R.ending result.reader ≡ InputEnd.Failed }
     ensures fault { W.failed writer.new ≡ is_write_fault result.ending }
 {

@@ -12,11 +12,12 @@ use crate::stop::Stop;
 use capture_core::{CaptureFault, PacketReader};
 use engine_core::{Ending, Stopped};
 use exchange_engines::ReplayStop;
-use frame_core::{PassedOver, SkipOther};
+use frame_core::SkipOther;
 use list_core::{EventLines, ItemFault, ItemReader, ListCause, Source, fault_of_list};
 use loss_engine::Unjudged;
 use script_core::{ScriptCause, ScriptLines};
 use std::alloc::Global;
+use tally_core::KindTally;
 use unwrap_core::Unwrap;
 
 /// What a task notes of its events, beside what it writes.
@@ -45,7 +46,9 @@ pub struct Performed<R> {
     /// What is told of the fault by which it ended, if it ended by one.
     pub told: Option<Told>,
     /// The frames of other protocols that were passed over, where they are.
-    pub passed: Option<PassedOver>,
+    pub passed: Option<KindTally>,
+    /// The packets that were not captured on Ethernet, by their link types, where a capture was read.
+    pub other_links: Option<KindTally>,
     /// The reader as it then stands.
     pub reader: R,
 }
@@ -91,6 +94,7 @@ pub fn of_script<R: Source>(
     ensures source { R.ending result.reader ≡ (item_state R.left R.ending stopped.reader).ending }
     ensures told { stop_of result.told ≡ option_map Stop.Script stopped.fault }
     ensures passed { result.passed ≡ None }
+    ensures links { result.other_links ≡ None }
 {
     let Stopped {
         ending,
@@ -108,6 +112,7 @@ pub fn of_script<R: Source>(
         ending,
         told,
         passed: None,
+        other_links: None,
         reader: reader.into_reader(),
     }
 }
@@ -119,6 +124,7 @@ pub fn of_capture<R>(stopped: Stopped<R, CaptureFault>) -> Performed<R>
     ensures reader { result.reader ≡ stopped.reader }
     ensures told { stop_of result.told ≡ option_map Stop.Capture stopped.fault }
     ensures passed { result.passed ≡ None }
+    ensures links { result.other_links ≡ None }
 {
     let Stopped {
         ending,
@@ -133,6 +139,7 @@ pub fn of_capture<R>(stopped: Stopped<R, CaptureFault>) -> Performed<R>
         ending,
         told,
         passed: None,
+        other_links: None,
         reader,
     }
 }
@@ -160,17 +167,20 @@ pub fn of_packets<R: Source>(
     ensures source { R.ending result.reader ≡ (packet_state R.left R.ending (under stopped.reader)).ending }
     ensures told { stop_of result.told ≡ option_map (of_stop Stop.Packet) stopped.fault }
     ensures passed { result.passed ≡ None }
+    ensures links { result.other_links ≡ Some (packet_state R.left R.ending (under stopped.reader)).other_links }
 {
     let Stopped {
         ending,
         fault,
         reader,
     } = stopped;
+    let (reader, other_links) = reader.into_beneath().into_parts();
     Performed {
         ending,
         told: told_of_packets(fault),
         passed: None,
-        reader: reader.into_beneath().into_reader(),
+        other_links: Some(other_links),
+        reader,
     }
 }
 
@@ -183,6 +193,7 @@ pub fn of_passed_packets<R: Source>(
     ensures left { R.left result.reader ≡ (packet_state R.left R.ending (under (beneath stopped.reader))).left }
     ensures source { R.ending result.reader ≡ (packet_state R.left R.ending (under (beneath stopped.reader))).ending }
     ensures passed { result.passed ≡ Some (passed_over stopped.reader) }
+    ensures links { result.other_links ≡ Some (packet_state R.left R.ending (under (beneath stopped.reader))).other_links }
     ensures told { stop_of result.told ≡ option_map (of_stop Stop.Packet) stopped.fault }
 {
     let Stopped {
@@ -191,11 +202,13 @@ pub fn of_passed_packets<R: Source>(
         reader,
     } = stopped;
     let (packets, passed) = reader.into_parts();
+    let (reader, other_links) = packets.into_beneath().into_parts();
     Performed {
         ending,
         told: told_of_packets(fault),
         passed: Some(passed),
-        reader: packets.into_beneath().into_reader(),
+        other_links: Some(other_links),
+        reader,
     }
 }
 
@@ -225,6 +238,7 @@ pub fn of_list_events<R: Source>(
     ensures source { R.ending result.reader ≡ (item_state R.left R.ending stopped.reader).ending }
     ensures told { stop_of result.told ≡ option_map (of_stop of_list) stopped.fault }
     ensures passed { result.passed ≡ None }
+    ensures links { result.other_links ≡ None }
 {
     let Stopped {
         ending,
@@ -236,6 +250,7 @@ pub fn of_list_events<R: Source>(
         ending,
         told,
         passed: None,
+        other_links: None,
         reader: reader.into_reader(),
     }
 }
@@ -250,6 +265,7 @@ pub fn of_unwrapped_events<R: Source>(
     ensures source { R.ending result.reader ≡ (item_state R.left R.ending (under stopped.reader)).ending }
     ensures told { stop_of result.told ≡ option_map (of_stop of_list) stopped.fault }
     ensures passed { result.passed ≡ None }
+    ensures links { result.other_links ≡ None }
 {
     let Stopped {
         ending,
@@ -261,6 +277,7 @@ pub fn of_unwrapped_events<R: Source>(
         ending,
         told,
         passed: None,
+        other_links: None,
         reader: reader.into_beneath().into_reader(),
     }
 }
@@ -277,6 +294,7 @@ pub fn of_passed_events<R: Source>(
     ensures left { R.left result.reader ≡ (item_state R.left R.ending (under (beneath stopped.reader))).left }
     ensures source { R.ending result.reader ≡ (item_state R.left R.ending (under (beneath stopped.reader))).ending }
     ensures passed { result.passed ≡ Some (passed_over stopped.reader) }
+    ensures links { result.other_links ≡ None }
     ensures told { stop_of result.told ≡ option_map (of_stop of_list) stopped.fault }
 {
     let Stopped {
@@ -290,6 +308,7 @@ pub fn of_passed_events<R: Source>(
         ending,
         told,
         passed: Some(passed),
+        other_links: None,
         reader: events.into_beneath().into_reader(),
     }
 }

@@ -5,7 +5,7 @@ ghost use Rattle.list_core.specs.Device.{GivesOctets};
 ghost use Rattle.engine_core.specs.Ending.{is_write_fault};
 ghost use Rattle.words_core.specs.CommandLine.{HasPeriod, asked_by};
 ghost use Rattle.task_engine.specs.EventTasks.{ended};
-ghost use Rattle.task_engine.specs.HandedOut.{RequestPasses, stop_of};
+ghost use Rattle.task_engine.specs.HandedOut.{RequestLinks, RequestPasses, stop_of};
 ghost use Rattle.task_engine.specs.RequestText.{RequestWrites, RewriteTells, manner_of};
 
 use crate::event_tasks::{Checks, ListsBlocks, Replays, Shows, TellsLosses, Watches};
@@ -26,6 +26,7 @@ fn perform_rewrite<R: Source, W: Sink>(alloc: Global, reader: R, writer: &mut W)
     ensures text { (given : List ℕ) × GivesOctets (R.left reader) (R.left result.reader) given
         × RewriteTells (ended result.ending (R.ending result.reader) given (W.contents writer.old) (W.contents writer.new)) (stop_of result.told) }
     ensures passed { result.passed ≡ None }
+    ensures links { result.other_links ≡ None }
     ensures read_fault { result.ending ≡ Ending.ReadFault → R.ending result.reader ≡ InputEnd.Failed }
     ensures fault { W.failed writer.new ≡ is_write_fault result.ending }
 {
@@ -64,6 +65,7 @@ pub fn perform<R: Source, W: Sink>(
     ensures text { (given : List ℕ) × GivesOctets (R.left reader) (R.left result.reader) given
         × RequestWrites options (asked_by task) (ended result.ending (R.ending result.reader) given (W.contents writer.old) (W.contents writer.new)) (stop_of result.told) }
     ensures passed { RequestPasses options (asked_by task) result.ending (R.ending result.reader) (R.left reader) (R.left result.reader) result.passed }
+    ensures links { RequestLinks options (asked_by task) result.ending (R.ending result.reader) (R.left reader) (R.left result.reader) result.other_links }
     ensures read_fault { result.ending ≡ Ending.ReadFault → R.ending result.reader ≡ InputEnd.Failed }
     ensures fault { W.failed writer.new ≡ is_write_fault result.ending }
 {

@@ -111,14 +111,14 @@ next_record form z n (x ∷ xs) = record_front form z n (x ∷ xs)
 
 -- how a record is told
 abbrev pub IsRecordEvent : {A : Type 0} → Told Packet → Result (Event A) PacketError → Type 0
-IsRecordEvent told (Ok e) = (p : Packet) × (told ≡ Ok p) × (e ≡ event_of p)
+IsRecordEvent told (Ok e) = (p : Packet) × (told ≡ Ok p) × (e ≡ event_of p) × (p.link_type ≡ 1)
 IsRecordEvent told (Err (error.Fault f)) = told ≡ Err (Some (faulty f))
 IsRecordEvent told (Err (error.Memory m)) = told ≡ Err None
 
 -- how the next record is told, or the capture's end
 abbrev pub IsNextEvent : {A : Type 0} → Told Packet → Result (Option (Event A)) PacketError → Type 0
 IsNextEvent told (Ok None) = told ≡ Err (Some finished)
-IsNextEvent told (Ok (Some e)) = (p : Packet) × (told ≡ Ok p) × (e ≡ event_of p)
+IsNextEvent told (Ok (Some e)) = (p : Packet) × (told ≡ Ok p) × (e ≡ event_of p) × (p.link_type ≡ 1)
 IsNextEvent told (Err (error.Fault f)) = told ≡ Err (Some (faulty f))
 IsNextEvent told (Err (error.Memory m)) = told ≡ Err None
 

@@ -1,5 +1,5 @@
 -- What private calls promise of sections and their blocks.
-use Rattle.std.specs.Prelude.{◌≡◌, ◌≤◌, ◌<◌, ℕ, ◌+◌, ◌-◌, ◌==◌, List, ◌++◌, length, take, Option, Some, Result, Ok, Err, if◌then◌else◌}
+use Rattle.std.specs.Prelude.{◌≡◌, ◌≢◌, ◌≤◌, ◌<◌, ℕ, ◌+◌, ◌-◌, ◌==◌, List, ◌++◌, length, take, Option, Some, Result, Ok, Err, if◌then◌else◌}
 use Rattle.std.specs.Io.KnownBytes.{Consumes}
 use Rattle.list_core.specs.declared.device.InputEnd.{InputEnd}
 use Rattle.list_core.specs.declared.event.Event.{Event}
@@ -49,16 +49,20 @@ TellsFrame s kind size given = (head : PacketHead) × (length given ≡ head_siz
 abbrev pub TellsFrameOf : Settled → ℕ → ℕ → List ℕ → Type 0
 TellsFrameOf s type size given = (kind : PacketBlock) × (type ≡ 1 → ⊥) × (packet_block_of type ≡ Some kind) × TellsFrame s kind size given
 
--- a packet's event, or why it is refused, as what its block says
-abbrev pub IsPacketToldAs : {A : Type 0} → Result (Event A) CaptureCause → Result Block CaptureCause → Type 0
-IsPacketToldAs (Ok e) b = (p : Packet) × (b ≡ Ok (captures p)) × (e ≡ event_of p)
-IsPacketToldAs (Err why) b = b ≡ Err why
+-- what a block said is that this packet was captured: its event, if that was on Ethernet, or the moment and the type of the link
+abbrev pub IsCaptured : {A : Type 0} → Said A → Packet → Type 0
+IsCaptured (said.Captures e) p = (e ≡ event_of p) × (p.link_type ≡ 1)
+IsCaptured (said.CapturesOther moment link) p = (p.moment ≡ moment) × (p.link_type ≡ link) × (link ≢ 1)
+IsCaptured (said.Begins order) p = ⊥
+IsCaptured (said.Describes i) p = ⊥
+IsCaptured said.Passes p = ⊥
 
 -- what a block said, or why it is refused
 abbrev pub IsSaidAs : {A : Type 0} → Result (Said A) CaptureCause → Result Block CaptureCause → Type 0
 IsSaidAs (Ok (said.Begins order)) b = b ≡ Ok (begins order)
 IsSaidAs (Ok (said.Describes i)) b = b ≡ Ok (describes i)
-IsSaidAs (Ok (said.Captures e)) b = (p : Packet) × (b ≡ Ok (captures p)) × (e ≡ event_of p)
+IsSaidAs (Ok (said.Captures e)) b = (p : Packet) × (b ≡ Ok (captures p)) × (e ≡ event_of p) × (p.link_type ≡ 1)
+IsSaidAs (Ok (said.CapturesOther moment link)) b = (p : Packet) × (b ≡ Ok (captures p)) × (p.moment ≡ moment) × (p.link_type ≡ link) × (link ≢ 1)
 IsSaidAs (Ok said.Passes) b = b ≡ Ok passes
 IsSaidAs (Err why) b = b ≡ Err why
 

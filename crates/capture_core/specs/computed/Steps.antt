@@ -3,8 +3,10 @@ use Rattle.std.specs.Prelude.{◌≡◌, ◌⊎◌, ◌<◌, ℕ, ◌+◌, List,
 use Rattle.std.specs.Io.KnownBytes.{Consumes}
 use Rattle.list_core.specs.declared.device.InputEnd.TheVariants.{Open}
 use Rattle.list_core.specs.declared.event.Event.{Event}
+use Rattle.list_core.specs.declared.event.EventKind.TheVariants.{Clock}
 use Rattle.list_core.specs.Device.{OnlyOpen}
 use Rattle.list_core.specs.Lines.{WhateverComes, unfinished}
+use Rattle.tally_core.specs.Tally.{count_one}
 use Rattle.capture_core.specs.Packets.{stopped}
 use Rattle.capture_core.specs.Asked.{OnlyWhile}
 use Rattle.capture_core.specs.PacketReader.{AnswersPacket, PacketState, answer_of, packets_behind, packet_number_told, things_left}
@@ -25,6 +27,7 @@ pub record PassesOver (old new : PacketState) : Type 0 where
   pub only_open : OnlyOpen old.ending given new.ending
   pub asked : OnlyWhile (λ front. packets_behind old Open front ≡ stopped unfinished) given old.ending new.ending
   pub reads : WhateverComes new.ending (λ z more. packets_behind old z (given ++ more) ≡ packets_behind new z more)
+  pub counted : new.other_links ≡ old.other_links
 
 -- fewer headers, records or blocks may come after an event
 abbrev pub FewerAfter : {A : Type 0} → Result (Option (Event A)) PacketError → PacketState → PacketState → Type 0
@@ -52,10 +55,14 @@ IsWantOfMemory (Answered (Err (error.Memory e))) = Unit {0}
 
 -- what a reader of blocks settles by what a block said: one block fewer may come, unless memory was wanted
 abbrev pub Settles : {R A : Type 0} → PacketReader R A → Said A → Step A → PacketReader R A → Type 0
-Settles old (said.Begins order) step new = (step ≡ Passed) × (new.progress ≡ progress.Blocks order) × (new.interfaces.items ≡ []) × (new.moment ≡ old.moment) × (new.answered ≡ old.answered) × (new.most + 1 ≡ old.most)
+Settles old (said.Begins order) step new = (step ≡ Passed) × (new.progress ≡ progress.Blocks order) × (new.interfaces.items ≡ []) × (new.moment ≡ old.moment)
+    × (new.answered ≡ old.answered) × (new.most + 1 ≡ old.most) × (new.other_links ≡ old.other_links)
 Settles old (said.Describes i) step new =
-    ((step ≡ Passed) × (new.progress ≡ old.progress) × (new.interfaces.items ≡ old.interfaces.items ++ i ∷ []) × (new.moment ≡ old.moment) × (new.answered ≡ old.answered) × (new.most + 1 ≡ old.most))
-    ⊎ (IsWantOfMemory step × (new.progress ≡ progress.GivenUp) × (new.answered ≡ old.answered))
+    ((step ≡ Passed) × (new.progress ≡ old.progress) × (new.interfaces.items ≡ old.interfaces.items ++ i ∷ []) × (new.moment ≡ old.moment) × (new.answered ≡ old.answered) × (new.most + 1 ≡ old.most) × (new.other_links ≡ old.other_links))
+    ⊎ (IsWantOfMemory step × (new.progress ≡ progress.GivenUp) × (new.answered ≡ old.answered) × (new.other_links ≡ old.other_links))
 Settles old (said.Captures e) step new = (step ≡ Answered (Ok (Some e))) × (new.progress ≡ old.progress) × (new.interfaces.items ≡ old.interfaces.items) × (new.moment ≡ e.moment)
-    × (new.answered ≡ old.answered + 1) × (new.most + 1 ≡ old.most)
-Settles old said.Passes step new = (step ≡ Passed) × (new.progress ≡ old.progress) × (new.interfaces.items ≡ old.interfaces.items) × (new.moment ≡ old.moment) × (new.answered ≡ old.answered) × (new.most + 1 ≡ old.most)
+    × (new.answered ≡ old.answered + 1) × (new.most + 1 ≡ old.most) × (new.other_links ≡ old.other_links)
+Settles old (said.CapturesOther moment link) step new = (step ≡ Answered (Ok (Some (record { moment = moment; kind = Clock })))) × (new.progress ≡ old.progress) × (new.interfaces.items ≡ old.interfaces.items)
+    × (new.moment ≡ moment) × (new.answered ≡ old.answered + 1) × (new.most + 1 ≡ old.most) × (new.other_links ≡ count_one (old.answered + 1) link old.other_links)
+Settles old said.Passes step new = (step ≡ Passed) × (new.progress ≡ old.progress) × (new.interfaces.items ≡ old.interfaces.items) × (new.moment ≡ old.moment)
+    × (new.answered ≡ old.answered) × (new.most + 1 ≡ old.most) × (new.other_links ≡ old.other_links)

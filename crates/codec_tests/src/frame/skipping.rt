@@ -1,9 +1,10 @@
 //! Frames of other protocols, passed over.
 
 use crate::frame::list_reading::is_listed_as;
-use frame_core::{Passed, PassedKind, SkipOther};
+use frame_core::SkipOther;
 use list_core::{Event, EventLines, ItemReader, ReadItems};
 use std::alloc::{AllocError, Global};
+use tally_core::{KindTotal, Total};
 use test_support::{Give, NEVER, RefusingAlloc, source_of};
 
 // A reader of the events of a list.
@@ -70,13 +71,13 @@ fn a_frame_of_another_protocol_tells_its_time(rt: HostRuntime) {
     let mut items = SkipOther::new(events_of(LIST));
     assert!(rt; gives(rt.alloc(), &mut items, &LEFT));
     let passed = items.passed_over();
-    let arp = PassedKind {
-        ether_type: 0x0806,
-        frames: Passed { count: 2, first: 2 },
+    let arp = KindTotal {
+        kind: 0x0806,
+        total: Total { count: 2, first: 2 },
     };
-    let ptp = PassedKind {
-        ether_type: 0x88f7,
-        frames: Passed { count: 1, first: 8 },
+    let ptp = KindTotal {
+        kind: 0x88f7,
+        total: Total { count: 1, first: 8 },
     };
     assert!(rt; passed.kinds() == [arp, ptp].as_slice());
     assert!(rt; passed.others() == None);
@@ -151,21 +152,21 @@ fn list_of_types(alloc: Global) -> Result<Vec<u8>, AllocError> {
 }
 
 // The frames of an EtherType of those below 16, of which two come twice.
-fn kind(ether_type: u16) -> PassedKind {
+fn kind(ether_type: u16) -> KindTotal {
     let count = if ether_type == 0 || ether_type == 3 {
         2
     } else {
         1
     };
     let first = ether_type as u64 + 2;
-    PassedKind {
-        ether_type,
-        frames: Passed { count, first },
+    KindTotal {
+        kind: ether_type,
+        total: Total { count, first },
     }
 }
 
 // Whether these are the frames of each EtherType below 16.
-fn are_all_kinds(kinds: &[PassedKind]) -> bool {
+fn are_all_kinds(kinds: &[KindTotal]) -> bool {
     for ether_type in 0..16u16 {
         if kinds.get(ether_type as usize) != Some(&kind(ether_type)) {
             return false;
@@ -189,7 +190,7 @@ fn gives_so_many<I: ReadItems<Global, Item = Event<Global>>>(
 }
 
 // The frames of further kinds.
-const OTHERS: Passed = Passed {
+const OTHERS: Total = Total {
     count: 4,
     first: 18,
 };

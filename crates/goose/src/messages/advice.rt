@@ -47,8 +47,8 @@ fn sentence(advice: Advice) -> &'static str {
     }
 }
 
-// The usual name of the type of a link, where a capture often has it.
-fn link_name(number: u16) -> Option<&'static str> {
+/// The usual name of the type of a link, where a capture often has it.
+pub fn link_name(number: u16) -> Option<&'static str> {
     match number {
         105 => Some("IEEE802_11, Wi-Fi"),
         113 => Some("LINUX_SLL, the interface any"),

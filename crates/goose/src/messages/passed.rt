@@ -1,14 +1,15 @@
 //! What is said of the frames of other protocols that were passed over.
 
-use frame_core::{Passed, PassedOver};
+use crate::messages::totals::write_first;
 use std::fmt;
+use tally_core::KindTally;
 
 /// The frames that were passed over, of which there is one at least.
 #[derive(Drop)]
-pub struct PassedFrames<'a>(&'a PassedOver);
+pub struct PassedFrames<'a>(&'a KindTally);
 
 /// What there is to say of the frames that were passed over, if there was one.
-pub fn passed_frames(passed: &PassedOver) -> Option<PassedFrames<'_>> {
+pub fn passed_frames(passed: &KindTally) -> Option<PassedFrames<'_>> {
     if passed.kinds().is_empty() {
         return None;
     }
@@ -39,33 +40,24 @@ fn protocol_of(ether_type: u16) -> Option<&'static str> {
     }
 }
 
-// Writes from which frame on there were some.
-fn write_first<W: fmt::Write>(f: &mut fmt::Formatter<W>, frames: Passed) -> fmt::Result {
-    write!(f, ", from {} on", frames.first)
-}
-
 impl fmt::Display for PassedFrames<'_> {
     fn fmt<W: fmt::Write>(&self, f: &mut fmt::Formatter<W>) -> fmt::Result {
         let PassedFrames(passed) = self;
         let mut before = "passed over: ";
         let mut of = "EtherType ";
         for kind in passed.kinds() {
-            write!(
-                f,
-                "{before}{} of {of}{:04x}",
-                kind.frames.count, kind.ether_type
-            )?;
-            if let Some(protocol) = protocol_of(kind.ether_type) {
+            write!(f, "{before}{} of {of}{:04x}", kind.total.count, kind.kind)?;
+            if let Some(protocol) = protocol_of(kind.kind) {
                 write!(f, " ({protocol})")?;
             }
-            write_first(f, kind.frames)?;
+            write_first(f, kind.total)?;
             before = "; ";
             of = "";
         }
         match passed.others() {
-            Some(frames) => {
-                write!(f, "; {} of other EtherTypes", frames.count)?;
-                write_first(f, frames)
+            Some(total) => {
+                write!(f, "; {} of other EtherTypes", total.count)?;
+                write_first(f, total)
             }
             None => Ok(()),
         }

@@ -22,7 +22,7 @@ returns-in-Ok g c =
     let v = c.in-Ok.ensures in
     let p : Packet = record { moment = moment_in_head c.args.form head; link_type = 1; octets = v.0 } in (
       Ok p,
-      (p, refl, v.5 ∙ ap (λ (m : ℕ). event_of (record { moment = m; link_type = 1; octets = v.0 })) c.moment_in.ensures.value),
+      (p, refl, v.5 ∙ ap (λ (m : ℕ). event_of (record { moment = m; link_type = 1; octets = v.0 })) c.moment_in.ensures.value, refl),
       front_read _ _ head _ _ _ _ p (front_whole _ _ head v.0 _ _ _ _ v.2 v.3 v.4 (λ front few. record_cut c.args.form c.args.number head c.requires Open front short (omega (arith, few, v.1, size)))
           (λ more y f. record_whole c.args.form c.args.number head c.requires y v.0 more short (v.1 ∙ size))),
     )
@@ -48,6 +48,6 @@ returns-in-Err-Memory g c =
       _,
       refl,
       front_wanted _ _ _ head _ _ _ _ _ v (omega (arith, c.requires)) (λ front few. record_cut c.args.form c.args.number head c.requires Open front short (omega (arith, few, size)))
-          (λ given more y is. record_keeps c.args.form c.args.number head c.requires y given more short is.0 (omega (arith, size, is.1.1)))
-          (λ given is. record_can_come c.args.form c.args.number head c.requires given short is.0 (omega (arith, size, is.1.1))),
+          (λ given more y is. record_keeps c.args.form c.args.number head c.requires y given more short is.0 (omega (arith, size, is.1)))
+          (λ given is. record_can_come c.args.form c.args.number head c.requires given short is.0 (omega (arith, size, is.1))),
     )

@@ -10,6 +10,9 @@ returns-in-true-true-clause-text g c =
 pub returns-in-true-true-clause-passed : goal.returns-in-true-true-clause-passed
 returns-in-true-true-clause-passed g c = rw (c.in-true-true.is-0, c.in-true-true.is-1) c.over_passed_capture.ensures.passed
 
+pub returns-in-true-true-clause-links : goal.returns-in-true-true-clause-links
+returns-in-true-true-clause-links g c = rw c.in-true-true.is-0 c.over_passed_capture.ensures.links
+
 pub returns-in-true-false-clause-text : goal.returns-in-true-false-clause-text
 returns-in-true-false-clause-text g c =
     let left = c.over_capture.ensures.text in
@@ -17,6 +20,9 @@ returns-in-true-false-clause-text g c =
 
 pub returns-in-true-false-clause-passed : goal.returns-in-true-false-clause-passed
 returns-in-true-false-clause-passed g c = rw (c.in-true-false.is-0, c.in-true-false.is-1) c.over_capture.ensures.passed
+
+pub returns-in-true-false-clause-links : goal.returns-in-true-false-clause-links
+returns-in-true-false-clause-links g c = rw c.in-true-false.is-0 c.over_capture.ensures.links
 
 pub returns-in-false-true-clause-text : goal.returns-in-false-true-clause-text
 returns-in-false-true-clause-text g c =
@@ -26,6 +32,9 @@ returns-in-false-true-clause-text g c =
 pub returns-in-false-true-clause-passed : goal.returns-in-false-true-clause-passed
 returns-in-false-true-clause-passed g c = rw (c.in-false-true.is-0, c.in-false-true.is-1) c.over_passed_list.ensures.passed
 
+pub returns-in-false-true-clause-links : goal.returns-in-false-true-clause-links
+returns-in-false-true-clause-links g c = rw c.in-false-true.is-0 c.over_passed_list.ensures.links
+
 pub returns-in-false-false-clause-text : goal.returns-in-false-false-clause-text
 returns-in-false-false-clause-text g c =
     let left = c.over_list.ensures.text in
@@ -33,3 +42,6 @@ returns-in-false-false-clause-text g c =
 
 pub returns-in-false-false-clause-passed : goal.returns-in-false-false-clause-passed
 returns-in-false-false-clause-passed g c = rw (c.in-false-false.is-0, c.in-false-false.is-1) c.over_list.ensures.passed
+
+pub returns-in-false-false-clause-links : goal.returns-in-false-false-clause-links
+returns-in-false-false-clause-links g c = rw c.in-false-false.is-0 c.over_list.ensures.links

@@ -31,11 +31,17 @@ returns-in-Show-clause-text g c = rw c.in-Show.is c.over_events.ensures.text
 pub returns-in-Show-clause-passed : goal.returns-in-Show-clause-passed
 returns-in-Show-clause-passed g c = rw c.in-Show.is c.over_events.ensures.passed
 
+pub returns-in-Show-clause-links : goal.returns-in-Show-clause-links
+returns-in-Show-clause-links g c = rw c.in-Show.is c.over_events.ensures.links
+
 pub returns-in-Check-clause-text : goal.returns-in-Check-clause-text
 returns-in-Check-clause-text g c = rw c.in-Check.is c.over_events-in-Check.ensures.text
 
 pub returns-in-Check-clause-passed : goal.returns-in-Check-clause-passed
 returns-in-Check-clause-passed g c = rw c.in-Check.is c.over_events-in-Check.ensures.passed
+
+pub returns-in-Check-clause-links : goal.returns-in-Check-clause-links
+returns-in-Check-clause-links g c = rw c.in-Check.is c.over_events-in-Check.ensures.links
 
 pub returns-in-Blocks-clause-text : goal.returns-in-Blocks-clause-text
 returns-in-Blocks-clause-text g c = rw c.in-Blocks.is c.over_events-in-Blocks.ensures.text
@@ -43,11 +49,17 @@ returns-in-Blocks-clause-text g c = rw c.in-Blocks.is c.over_events-in-Blocks.en
 pub returns-in-Blocks-clause-passed : goal.returns-in-Blocks-clause-passed
 returns-in-Blocks-clause-passed g c = rw c.in-Blocks.is c.over_events-in-Blocks.ensures.passed
 
+pub returns-in-Blocks-clause-links : goal.returns-in-Blocks-clause-links
+returns-in-Blocks-clause-links g c = rw c.in-Blocks.is c.over_events-in-Blocks.ensures.links
+
 pub returns-in-Replay-clause-text : goal.returns-in-Replay-clause-text
 returns-in-Replay-clause-text g c = rw (c.in-Replay.is, sym c.manner_of-manner.ensures) c.over_events-in-Replay.ensures.text
 
 pub returns-in-Replay-clause-passed : goal.returns-in-Replay-clause-passed
 returns-in-Replay-clause-passed g c = rw c.in-Replay.is c.over_events-in-Replay.ensures.passed
+
+pub returns-in-Replay-clause-links : goal.returns-in-Replay-clause-links
+returns-in-Replay-clause-links g c = rw c.in-Replay.is c.over_events-in-Replay.ensures.links
 
 pub returns-in-Watch-clause-text : goal.returns-in-Watch-clause-text
 returns-in-Watch-clause-text g c = rw (c.in-Watch.is, sym c.as_slice-id.ensures.value) c.over_events-in-Watch.ensures.text
@@ -55,8 +67,14 @@ returns-in-Watch-clause-text g c = rw (c.in-Watch.is, sym c.as_slice-id.ensures.
 pub returns-in-Watch-clause-passed : goal.returns-in-Watch-clause-passed
 returns-in-Watch-clause-passed g c = rw c.in-Watch.is c.over_events-in-Watch.ensures.passed
 
+pub returns-in-Watch-clause-links : goal.returns-in-Watch-clause-links
+returns-in-Watch-clause-links g c = rw c.in-Watch.is c.over_events-in-Watch.ensures.links
+
 pub returns-in-Losses-clause-text : goal.returns-in-Losses-clause-text
 returns-in-Losses-clause-text g c = rw c.in-Losses.is c.over_events-in-Losses.ensures.text
 
 pub returns-in-Losses-clause-passed : goal.returns-in-Losses-clause-passed
 returns-in-Losses-clause-passed g c = rw c.in-Losses.is c.over_events-in-Losses.ensures.passed
+
+pub returns-in-Losses-clause-links : goal.returns-in-Losses-clause-links
+returns-in-Losses-clause-links g c = rw c.in-Losses.is c.over_events-in-Losses.ensures.links

@@ -16,7 +16,7 @@ returns-in-None g c =
       | in-Whole w ↦ last_whole number _ c.fill.new.into _ _ _ _ c.fill.auto.into (ap stop_of w.fault-is ∙ w.in_record.ensures) w.in-Whole.ensures
       | in-Short w ↦ last_short number w.in-Short.field-0 _ c.fill.new.into _ _ _ _ c.fill.auto.into (ap (λ (z : InputEnd). ended z number) (sym w.ending.ensures) ∙ w.ended_in-fault.ensures ∙ ap stop_of (sym w.fault-is)) w.in-Short.ensures
     ] in
-    rw c.in-None.is (last_ends _ _ old.progress old.interfaces.items old.moment refl c.requires.reading c.requires.none (rw c.in-None.is at told) refl, sym (number_reading old.progress old.answered c.requires.reading), tt)
+    rw c.in-None.is (last_ends _ _ old.progress old.interfaces.items old.moment refl c.requires.reading c.requires.none (rw c.in-None.is at told) refl refl, sym (number_reading old.progress old.answered c.requires.reading), tt)
 
 pub returns-in-Some : goal.returns-in-Some
 returns-in-Some g c =
@@ -27,4 +27,4 @@ returns-in-Some g c =
       | in-Whole w ↦ last_whole number _ c.fill.new.into _ _ _ _ c.fill.auto.into (ap stop_of w.fault-is ∙ w.in_record.ensures) w.in-Whole.ensures
       | in-Short w ↦ last_short number w.in-Short.field-0 _ c.fill.new.into _ _ _ _ c.fill.auto.into (ap (λ (z : InputEnd). ended z number) (sym w.ending.ensures) ∙ w.ended_in-fault.ensures ∙ ap stop_of (sym w.fault-is)) w.in-Short.ensures
     ] in
-    rw c.in-Some.is (last_fails _ _ old.progress old.interfaces.items old.moment refl c.requires.reading c.requires.none c.in-Some.fault (rw c.in-Some.is at told) refl, refl, tt)
+    rw c.in-Some.is (last_fails _ _ old.progress old.interfaces.items old.moment refl c.requires.reading c.requires.none c.in-Some.fault (rw c.in-Some.is at told) refl refl, refl, tt)

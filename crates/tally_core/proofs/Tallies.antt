@@ -1,4 +1,4 @@
--- What is kept of frames that are passed over tells how many there were of each EtherType, and the first.
+-- A tally tells of each kind how many there were, and the first.
 use Rattle.std.proofs.Common.{◌≡◌, ◌≢◌, ◌≤◌, ◌<◌, ◌⊎◌, inl, inr, ℕ, ◌+◌, ◌-◌, ◌^◌, ◌==◌, ◌||◌, ltb, Bool, true, false, not, List, [], ◌∷◌, ◌++◌, map, length, get_or, min, Option, Some, None, refl, sym, ap, subst, ◌∙◌, arith, zero, suc}
 use Rattle.std.specs.List.{AllByRecursion, list_any}
 use Rattle.std.proofs.lemmas.Bool.{eq-eqb, eqb-false, eqb-true, ltb-false, ltb-true, ne_eqb}
@@ -6,21 +6,21 @@ use Rattle.std.proofs.lemmas.List.{append-nil, append_assoc, length-append, leng
 use Rattle.std.proofs.lemmas.List.Elements.{filter-append}
 use Rattle.std.proofs.lemmas.List.Folds.{list_any-append}
 use Rattle.std.proofs.lemmas.List.Quantifiers.{all_pairs_push}
-use Rattle.frame_core.specs.PassedOver.{Counts, CountsIfAny, EachIsCounted, IsTallyOf, Tally, again, again_of, first_passed, is_of, new_kind, no_tally, numbers_where, one_more, pass_all, pass_one}
-use Rattle.frame_core.specs.declared.passed_over.Passed.{Passed}
-use Rattle.frame_core.specs.declared.passed_over.PassedKind.{PassedKind}
+use Rattle.tally_core.specs.Tally.{Counts, CountsIfAny, EachIsCounted, IsTallyOf, Tally, again, again_of, first_one, is_of, new_kind, no_tally, numbers_where, one_more, count_all, count_one}
+use Rattle.tally_core.specs.declared.kind_tally.Total.{Total}
+use Rattle.tally_core.specs.declared.kind_tally.KindTotal.{KindTotal}
 
--- the EtherTypes of kinds
-abbrev types : List PassedKind → List ℕ
-types ks = map (λ k. k.ether_type) ks
+-- what the kinds are
+abbrev words : List KindTotal → List ℕ
+words ks = map (λ k. k.kind) ks
 
--- none of the kinds has this EtherType
-abbrev is_apart : List PassedKind → ℕ → Bool
+-- none of the kinds is this one
+abbrev is_apart : List KindTotal → ℕ → Bool
 is_apart ks u = not (list_any (is_of u) ks)
 
--- each kind tells its frames
-abbrev TellFrames : List (ℕ × ℕ) → List PassedKind → Type 0
-TellFrames fs ks = AllByRecursion (λ k. Counts (numbers_where (λ u. u == k.ether_type) fs) k.frames) ks
+-- of each kind its total is told
+abbrev TellTotals : List (ℕ × ℕ) → List KindTotal → Type 0
+TellTotals fs ks = AllByRecursion (λ k. Counts (numbers_where (λ u. u == k.kind) fs) k.total) ks
 
 -- of two tests neither passes
 neither : (a b : Bool) → (a || b) ≡ false → (a ≡ false) × (b ≡ false)
@@ -39,10 +39,10 @@ left_passes false b e = refl
 saturates : (n m : ℕ) → min (min n m + 1) m ≡ min (n + 1) m
 saturates n m = omega arith
 
-counts_more : (ns : List ℕ) (p : Passed) (n : ℕ) → Counts ns p → Counts (ns ++ n ∷ []) (again p)
+counts_more : (ns : List ℕ) (p : Total) (n : ℕ) → Counts ns p → Counts (ns ++ n ∷ []) (again p)
 counts_more ns p n (first, more, is, kept) = (first, more ++ n ∷ [], rw is refl, rw (kept, length-append, saturates (length ns) (2 ^ 64 - 1)) refl)
 
-counts_one : (n : ℕ) → Counts (n ∷ []) (first_passed n)
+counts_one : (n : ℕ) → Counts (n ∷ []) (first_one n)
 counts_one n = (n, [], refl, refl)
 
 -- tests that pass alike
@@ -64,7 +64,7 @@ none_where p q so (f ∷ fs) e = go (q f.1) (p f.1) refl refl (none_where p q so
     go false true is was rest = absurd (let wrong = sym is ∙ so f.1 was in cc)
     go false false is was rest = rw was (rest (rw is at e))
 
--- one frame more
+-- one more
 module _ (fs : List (ℕ × ℕ)) (n t : ℕ) where
   abbrev more : List (ℕ × ℕ)
   more = fs ++ (n, t) ∷ []
@@ -78,56 +78,56 @@ module _ (fs : List (ℕ × ℕ)) (n t : ℕ) where
   where_no : (test : ℕ → Bool) → test t ≡ false → numbers_where test more ≡ numbers_where test fs
   where_no test fails = where_more test ∙ rw (fails, append-nil) refl
 
-  type_same : (k : PassedKind) → (again_of t k).ether_type ≡ k.ether_type
+  type_same : (k : KindTotal) → (again_of t k).kind ≡ k.kind
   type_same k = go (is_of t k) refl
     where
-      go : (b : Bool) → is_of t k ≡ b → (again_of t k).ether_type ≡ k.ether_type
+      go : (b : Bool) → is_of t k ≡ b → (again_of t k).kind ≡ k.kind
       go true is = rw is refl
       go false is = rw is refl
 
-  types_same : (ks : List PassedKind) → types (map (again_of t) ks) ≡ types ks
+  types_same : (ks : List KindTotal) → words (map (again_of t) ks) ≡ words ks
   types_same [] = refl
   types_same (k ∷ ks) = rw (type_same k, types_same ks) refl
 
-  any_same : (u : ℕ) (ks : List PassedKind) → list_any (is_of u) (map (again_of t) ks) ≡ list_any (is_of u) ks
+  any_same : (u : ℕ) (ks : List KindTotal) → list_any (is_of u) (map (again_of t) ks) ≡ list_any (is_of u) ks
   any_same u [] = refl
   any_same u (k ∷ ks) = rw (type_same k, any_same u ks) refl
 
-  kind_again : (k : PassedKind) → Counts (numbers_where (λ u. u == k.ether_type) fs) k.frames → Counts (numbers_where (λ u. u == (again_of t k).ether_type) more) (again_of t k).frames
+  kind_again : (k : KindTotal) → Counts (numbers_where (λ u. u == k.kind) fs) k.total → Counts (numbers_where (λ u. u == (again_of t k).kind) more) (again_of t k).total
   kind_again k h = go (is_of t k) refl
     where
-      go : (b : Bool) → is_of t k ≡ b → Counts (numbers_where (λ u. u == (again_of t k).ether_type) more) (again_of t k).frames
+      go : (b : Bool) → is_of t k ≡ b → Counts (numbers_where (λ u. u == (again_of t k).kind) more) (again_of t k).total
       go true is =
-          let same : t ≡ k.ether_type = sym (eqb-true k.ether_type t is) in
-          rw (is, where_yes (λ u. u == k.ether_type) (eq-eqb t k.ether_type same)) (counts_more (numbers_where (λ u. u == k.ether_type) fs) k.frames n h)
+          let same : t ≡ k.kind = sym (eqb-true k.kind t is) in
+          rw (is, where_yes (λ u. u == k.kind) (eq-eqb t k.kind same)) (counts_more (numbers_where (λ u. u == k.kind) fs) k.total n h)
       go false is =
-          rw (is, where_no (λ u. u == k.ether_type) (ne_eqb t k.ether_type (λ same. eqb-false k.ether_type t is (sym same)))) h
+          rw (is, where_no (λ u. u == k.kind) (ne_eqb t k.kind (λ same. eqb-false k.kind t is (sym same)))) h
 
-  kinds_again : (ks : List PassedKind) → TellFrames fs ks → TellFrames more (map (again_of t) ks)
+  kinds_again : (ks : List KindTotal) → TellTotals fs ks → TellTotals more (map (again_of t) ks)
   kinds_again [] h = tt
   kinds_again (k ∷ ks) h = (kind_again k h.0, kinds_again ks h.1)
 
-  kinds_stay : (ks : List PassedKind) → list_any (is_of t) ks ≡ false → TellFrames fs ks → TellFrames more ks
+  kinds_stay : (ks : List KindTotal) → list_any (is_of t) ks ≡ false → TellTotals fs ks → TellTotals more ks
   kinds_stay [] none h = tt
   kinds_stay (k ∷ ks) none h =
       let other = neither (is_of t k) (list_any (is_of t) ks) none in
-      (rw (where_no (λ u. u == k.ether_type) (ne_eqb t k.ether_type (λ same. eqb-false k.ether_type t other.0 (sym same)))) h.0, kinds_stay ks other.1 h.1)
+      (rw (where_no (λ u. u == k.kind) (ne_eqb t k.kind (λ same. eqb-false k.kind t other.0 (sym same)))) h.0, kinds_stay ks other.1 h.1)
 
-  -- a kind of this EtherType
-  abbrev new : PassedKind
-  new = record { ether_type = t; frames = first_passed n }
+  -- this kind
+  abbrev new : KindTotal
+  new = record { kind = t; total = first_one n }
 
-  kinds_push : (ks : List PassedKind) → TellFrames more ks → Counts (numbers_where (λ u. u == t) more) (first_passed n) → TellFrames more (ks ++ new ∷ [])
+  kinds_push : (ks : List KindTotal) → TellTotals more ks → Counts (numbers_where (λ u. u == t) more) (first_one n) → TellTotals more (ks ++ new ∷ [])
   kinds_push [] h one = (one, tt)
   kinds_push (k ∷ ks) h one = (h.0, kinds_push ks h.1 one)
 
-  types_differ : (ks : List PassedKind) → list_any (is_of t) ks ≡ false → (i d : ℕ) → i < length (types ks) → get_or (types ks) i d ≢ t
+  types_differ : (ks : List KindTotal) → list_any (is_of t) ks ≡ false → (i d : ℕ) → i < length (words ks) → get_or (words ks) i d ≢ t
   types_differ [] none i d inside = absurd (omega arith)
-  types_differ (k ∷ ks) none zero d inside = eqb-false k.ether_type t (neither (is_of t k) (list_any (is_of t) ks) none).0
+  types_differ (k ∷ ks) none zero d inside = eqb-false k.kind t (neither (is_of t k) (list_any (is_of t) ks) none).0
   types_differ (k ∷ ks) none (suc i) d inside = types_differ ks (neither (is_of t k) (list_any (is_of t) ks) none).1 i d (omega arith)
 
-  -- a frame of an EtherType that a kind has
-  tells_again : (ks : List PassedKind) (o : Option Passed) → list_any (is_of t) ks ≡ true → IsTallyOf fs (record { kinds = ks; others = o }) → IsTallyOf more (record { kinds = map (again_of t) ks; others = o })
+  -- one of a kind that there is
+  tells_again : (ks : List KindTotal) (o : Option Total) → list_any (is_of t) ks ≡ true → IsTallyOf fs (record { kinds = ks; others = o }) → IsTallyOf more (record { kinds = map (again_of t) ks; others = o })
   tells_again ks o found h = record {
     kinds = kinds_again ks h.kinds;
     apart = rw (types_same ks) h.apart;
@@ -136,11 +136,11 @@ module _ (fs : List (ℕ × ℕ)) (n t : ℕ) where
     full = rw length-map h.full;
   }
 
-  -- the first frame of a further kind: beside fewer than sixteen kinds all frames before had the EtherType of one
-  tells_new : (ks : List PassedKind) → list_any (is_of t) ks ≡ false → length ks < 16 → IsTallyOf fs (record { kinds = ks; others = None }) → IsTallyOf more (record { kinds = ks ++ new ∷ []; others = None })
+  -- the first one of a further kind: beside fewer than sixteen kinds all before were of one of them
+  tells_new : (ks : List KindTotal) → list_any (is_of t) ks ≡ false → length ks < 16 → IsTallyOf fs (record { kinds = ks; others = None }) → IsTallyOf more (record { kinds = ks ++ new ∷ []; others = None })
   tells_new ks none room h = record {
     kinds = kinds_push ks (kinds_stay ks none h.kinds) (rw (where_yes (λ u. u == t) (eq-eqb t t refl), none_before) (counts_one n));
-    apart = rw map-append (all_pairs_push (λ u v. u ≢ v) (types ks) t h.apart (λ i d inside. types_differ ks none i d inside));
+    apart = rw map-append (all_pairs_push (λ u v. u ≢ v) (words ks) t h.apart (λ i d inside. types_differ ks none i d inside));
     others = where_no (is_apart (ks ++ new ∷ [])) (rw (list_any-append, eq-eqb t t refl, or_true (list_any (is_of t) ks)) refl) ∙ none_where (is_apart (ks ++ new ∷ [])) (is_apart ks) still fs h.others;
     few = rw length-append (omega arith);
     full = inr refl;
@@ -153,11 +153,11 @@ module _ (fs : List (ℕ × ℕ)) (n t : ℕ) where
       still u e = left_passes (list_any (is_of u) ks) (list_any (is_of u) (new ∷ [])) (rw list_any-append at e)
 
   -- one of the others
-  other_more : (ns : List ℕ) (o : Option Passed) → CountsIfAny ns o → CountsIfAny (ns ++ n ∷ []) (one_more n o)
+  other_more : (ns : List ℕ) (o : Option Total) → CountsIfAny ns o → CountsIfAny (ns ++ n ∷ []) (one_more n o)
   other_more ns None h = rw h (counts_one n)
   other_more ns (Some p) h = counts_more ns p n h
 
-  tells_other : (ks : List PassedKind) (o : Option Passed) → list_any (is_of t) ks ≡ false → 16 ≤ length ks → IsTallyOf fs (record { kinds = ks; others = o }) → IsTallyOf more (record { kinds = ks; others = one_more n o })
+  tells_other : (ks : List KindTotal) (o : Option Total) → list_any (is_of t) ks ≡ false → 16 ≤ length ks → IsTallyOf fs (record { kinds = ks; others = o }) → IsTallyOf more (record { kinds = ks; others = one_more n o })
   tells_other ks o none full h =
       let many : length ks ≤ 16 = h.few in
       record {
@@ -168,7 +168,7 @@ module _ (fs : List (ℕ × ℕ)) (n t : ℕ) where
         full = inl (omega arith);
       }
 
-  tells_further : (ks : List PassedKind) (o : Option Passed) → list_any (is_of t) ks ≡ false → IsTallyOf fs (record { kinds = ks; others = o }) → (b : Bool) → ltb (length ks) 16 ≡ b → IsTallyOf more (new_kind n t (record { kinds = ks; others = o }))
+  tells_further : (ks : List KindTotal) (o : Option Total) → list_any (is_of t) ks ≡ false → IsTallyOf fs (record { kinds = ks; others = o }) → (b : Bool) → ltb (length ks) 16 ≡ b → IsTallyOf more (new_kind n t (record { kinds = ks; others = o }))
   tells_further ks None none h true is = rw is (tells_new ks none (ltb-true (length ks) 16 is) h)
   tells_further ks (Some p) none h true is = absurd (beside (ltb-true (length ks) 16 is) h.full)
     where
@@ -177,15 +177,20 @@ module _ (fs : List (ℕ × ℕ)) (n t : ℕ) where
       beside room (inr none) = cc
   tells_further ks o none h false is = rw is (tells_other ks o none (ltb-false (length ks) 16 is) h)
 
-  tells_step : (ks : List PassedKind) (o : Option Passed) → IsTallyOf fs (record { kinds = ks; others = o }) → (b : Bool) → list_any (is_of t) ks ≡ b → IsTallyOf more (pass_one n t (record { kinds = ks; others = o }))
+  tells_step : (ks : List KindTotal) (o : Option Total) → IsTallyOf fs (record { kinds = ks; others = o }) → (b : Bool) → list_any (is_of t) ks ≡ b → IsTallyOf more (count_one n t (record { kinds = ks; others = o }))
   tells_step ks o h true is = rw is (tells_again ks o is h)
   tells_step ks o h false is = rw is (tells_further ks o is h (ltb (length ks) 16) refl)
 
-tells_on : (fs before : List (ℕ × ℕ)) (a : Tally) → IsTallyOf before a → IsTallyOf (before ++ fs) (pass_all fs a)
+tells_on : (fs before : List (ℕ × ℕ)) (a : Tally) → IsTallyOf before a → IsTallyOf (before ++ fs) (count_all fs a)
 tells_on [] before a h = rw append-nil h
 tells_on (f ∷ fs) before a h =
-    subst (λ l. IsTallyOf l (pass_all (f ∷ fs) a)) (append_assoc before (f ∷ []) fs)
-    (tells_on fs (before ++ f ∷ []) (pass_one f.0 f.1 a) (tells_step before f.0 f.1 a.kinds a.others h (list_any (is_of f.1) a.kinds) refl))
+    subst (λ l. IsTallyOf l (count_all (f ∷ fs) a)) (append_assoc before (f ∷ []) fs)
+    (tells_on fs (before ++ f ∷ []) (count_one f.0 f.1 a) (tells_step before f.0 f.1 a.kinds a.others h (list_any (is_of f.1) a.kinds) refl))
 
 pub each_is_counted : EachIsCounted
 each_is_counted fs = tells_on fs [] no_tally (record { kinds = tt; apart = λ i j d before inside. absurd (omega arith); others = refl; few = omega arith; full = inr refl })
+
+-- what is counted behind others
+pub count_append : (fs gs : List (ℕ × ℕ)) (a : Tally) → count_all (fs ++ gs) a ≡ count_all gs (count_all fs a)
+count_append [] gs a = refl
+count_append (f ∷ fs) gs a = count_append fs gs (count_one f.0 f.1 a)

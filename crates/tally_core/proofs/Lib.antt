@@ -1,0 +1,3 @@
+pub mod CountedAgain
+pub mod Tallies
+pub mod Turned
