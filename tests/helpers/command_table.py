@@ -109,8 +109,8 @@ def reading():
 
 def usage(command):
     """A command's own words as its help writes them, behind the options, of which each command has one at least."""
-    words = [" ".join(it for it in (f"--{own.name}", f"<{own.value}>") if it) if own.is_option else f"<{own.name}>..."
-             for own in command.own if own.is_required]
+    words = [" ".join(it for it in (f"--{own.name}", f"<{own.value}>") if it) if own.is_option else f"<{own.name}>..." if own.is_required else f"[{own.name}]..."
+             for own in command.own if own.is_required or not own.is_option]
     return "".join(f" {it}" for it in ["[OPTIONS]", *words])
 
 
@@ -123,7 +123,7 @@ def called(command):
 def in_manual(own):
     """A word of a command's own, as the manual page writes it."""
     value = f" Ar {own.value.lower()}" if own.value else ""
-    return f"{'' if own.is_required else 'Op '}Fl -{own.name}{value}" if own.is_option else f"Ar {own.name.lower()} ..."
+    return ("" if own.is_required else "Op ") + (f"Fl -{own.name}{value}" if own.is_option else f"Ar {own.name.lower()} ...")
 
 
 def intakes():

@@ -662,7 +662,7 @@ HELP = {
     "import": "Reads a capture (classic libpcap, as tcpdump -w writes) and writes it as a list",
 }
 # The words behind a command's name, as its help writes them, and what help says of the options.
-TAKES = {"show": " [OPTIONS]", "check": " [OPTIONS]", "rewrite": " [OPTIONS]", "blocks": " [OPTIONS]", "replay": " [OPTIONS] <BLOCK>...",
+TAKES = {"show": " [OPTIONS]", "check": " [OPTIONS]", "rewrite": " [OPTIONS]", "blocks": " [OPTIONS]", "replay": " [OPTIONS] [BLOCK]...",
          "publish": " [OPTIONS]", "watch": " [OPTIONS] --period <N> --id <TEXT>", "losses": " [OPTIONS]", "import": " [OPTIONS]"}
 READ = "-r, --read <FILE> Reads FILE in place of standard input, which - stands for"
 OPTIONS = {

@@ -182,7 +182,7 @@ def refusals():
         (["-x"], b"'-x'"), ([b"sh\xffow"], b"UTF-8"), (["show", b"\xff"], b"UTF-8"),
     ):
         yield Refuses(words, named)
-    for name in (it for it in HELP if "<" not in TAKES[it]):
+    for name in (it for it in HELP if TAKES[it] == " [OPTIONS]"):
         for words, named in (
             ([name, "more"], b"'more'"), ([name, name], f"'{name}'".encode()), ([name, "--nothing"], b"'--nothing'"),
             ([name, "--version"], b"'--version'"), ([name, "--", "more"], b"'more'"), (["--", name], f"'{name}'".encode()),

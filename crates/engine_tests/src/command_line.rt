@@ -244,7 +244,7 @@ fn request_named(
 }
 
 // Words that ask for a task with options: its name, and whether `--capture` and `--skip-other` are given.
-const REQUESTS: [(&[&str], &str, bool, bool); 15] = [
+const REQUESTS: [(&[&str], &str, bool, bool); 16] = [
     (&["goose", "show"], "show", false, false),
     (
         &["goose", "losses", "--unwrap", "--skip-other"],
@@ -321,6 +321,13 @@ const REQUESTS: [(&[&str], &str, bool, bool); 15] = [
     ),
     // The first word is the program's name.
     (&["--capture", "show"], "show", false, false),
+    // Without a BLOCK there is none in the task.
+    (
+        &["goose", "replay", "-r", "FILE", "--capture"],
+        "replay",
+        true,
+        false,
+    ),
 ];
 
 #[test]

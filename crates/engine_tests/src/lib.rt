@@ -21,6 +21,8 @@ mod laws;
 #[cfg(test)]
 mod limits;
 #[cfg(test)]
+mod listing;
+#[cfg(test)]
 mod losses;
 #[cfg(test)]
 mod runs;

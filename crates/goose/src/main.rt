@@ -21,6 +21,7 @@ use crate::messages::advice::Advised;
 use crate::messages::block_fields::block_fault;
 use crate::messages::failure::{Failure, Unread};
 use crate::messages::head::{Intake, advice_by_head};
+use crate::messages::left_out::LeftOut;
 use crate::messages::links::packets_of_other_links;
 use crate::messages::passed::passed_frames;
 use crate::messages::period::NoPeriod;
@@ -37,7 +38,9 @@ use std::io::{BufReader, ErrorKind, IsTerminal};
 use std::process::ExitCode;
 use std::{env, io};
 use tally_core::KindTally;
-use task_engine::{Notes, Performed, Told, Unjudged, perform};
+use task_engine::{
+    FoundBlocks, Notes, Performed, Told, Unjudged, list_blocks, perform, replay_listed,
+};
 use words_core::{Options, Request, Task, WordsError, read_request};
 
 // What is not inlined here needs much of the stack, which is free again when a task runs.
@@ -301,7 +304,87 @@ fn say_unjudged(rt: &HostRuntime, command: &str, unjudged: &Unjudged<Global>) {
     }
 }
 
-// Runs a task from standard input, or from the file that is named, to standard output, and answers the exit status.
+// Says that a replay has no control block, and where to find some, and answers the exit status.
+#[inline(never)]
+fn answer_unnamed(rt: &HostRuntime) -> u8 {
+    let _ = Console::of(rt).eprintln(
+        "error: the following required arguments were not provided:\n  <BLOCK>...\n\nUsage: goose replay <BLOCK>...\n\nFor more information, try '--help'.\n\
+         goose blocks lists them; with -r FILE all of them are taken",
+    );
+    2
+}
+
+// Whether a task is a replay without a control block.
+fn is_unnamed(task: &Task) -> bool {
+    match task {
+        Task::Replay(blocks) => blocks.is_empty(),
+        _ => false,
+    }
+}
+
+// What a run reads, and its options: those of a file that is read by its name are others. Or the exit status, where it cannot be read.
+fn begun<'a>(
+    rt: &'a HostRuntime,
+    command: &str,
+    file: Option<&str>,
+    options: Options,
+    opened: Opened,
+) -> Result<(Begun<Patient<'a, HostRuntime, Opened>>, Options), u8> {
+    let opened = Patient::new(rt, opened);
+    if file.is_none() {
+        return Ok((Begun::new(opened), options));
+    }
+    match Begun::looked_at(opened) {
+        Ok((opened, is_capture)) => Ok((opened, options_by_name(options, is_capture))),
+        Err(error) => Err(answer_unread(rt, command, file, error)),
+    }
+}
+
+// Says which control blocks of a file a replay leaves out, or that there is none.
+#[inline(never)]
+fn say_found(rt: &HostRuntime, file: &str, found: &FoundBlocks<Global>) {
+    if found.listed.is_empty() {
+        let _ = eprintln!(Console::of(rt); "goose replay: no control block in {file}");
+    }
+    for block in found.listed.as_slice() {
+        if !block.is_named {
+            let _ = eprintln!(Console::of(rt); "goose replay: {}", LeftOut(block.text.as_slice()));
+        }
+    }
+}
+
+// The control blocks of the file that is named, which must be a regular one, since it is read twice; or the exit status.
+fn found_in(
+    rt: &HostRuntime,
+    file: Option<&str>,
+    options: Options,
+) -> Result<FoundBlocks<Global>, u8> {
+    let name = match file {
+        None | Some("-") => return Err(answer_unnamed(rt)),
+        Some(name) => name,
+    };
+    let opened = match Opened::by_name(rt, file) {
+        Ok(opened) => opened,
+        Err(error) => return Err(answer_unread(rt, "replay", file, error)),
+    };
+    if !opened.is_regular() {
+        return Err(answer_unnamed(rt));
+    }
+    let (opened, options) = begun(rt, "replay", file, options, opened)?;
+    let Ok(input) = BufReader::with_capacity(rt.alloc(), BLOCK, opened) else {
+        return Err(status(&Ending::Memory));
+    };
+    match list_blocks(rt.alloc(), options, FromRead::new(input)) {
+        Ok(listed) => {
+            say_found(rt, name, &listed.found);
+            Ok(listed.found)
+        }
+        Err(_) => Err(status(&Ending::Memory)),
+    }
+}
+
+// Runs a task from standard input, or from the file that is named, to standard output, and answers the exit status. Where a replay
+// has no control block, those of the file are found first.
 fn run(rt: &HostRuntime, request: Request<'_>, words: &[&str]) -> u8
     requires { HasPeriod (asked_by request.task) }
 {
@@ -314,27 +397,33 @@ fn run(rt: &HostRuntime, request: Request<'_>, words: &[&str]) -> u8
         return answer_raw(rt, options);
     }
     let command = task.name();
+    let found = if is_unnamed(&task) {
+        match found_in(rt, file, options) {
+            Ok(found) => Some(found),
+            Err(code) => return code,
+        }
+    } else {
+        None
+    };
     if matches!(file, None | Some("-")) {
         say_awaited(rt, command, intake_of(&task, options));
     }
     let opened = match Opened::by_name(rt, file) {
-        Ok(opened) => Patient::new(rt, opened),
+        Ok(opened) => opened,
         Err(error) => return answer_unread(rt, command, file, error),
     };
-    let (opened, options) = match file {
-        None => (Begun::new(opened), options),
-        Some(_) => match Begun::looked_at(opened) {
-            Ok((opened, is_capture)) => (opened, options_by_name(options, is_capture)),
-            Err(error) => return answer_unread(rt, command, file, error),
-        },
-    };
-    run_over(rt, task, options, opened, words)
+    match begun(rt, command, file, options, opened) {
+        Ok((opened, options)) => run_over(rt, task, found, options, opened, words),
+        Err(code) => code,
+    }
 }
 
-// Runs a task from a reader to standard output, and answers the exit status.
+// Runs a task from a reader to standard output, a replay over the control blocks that were found where some were looked for, and
+// answers the exit status.
 fn run_over(
     rt: &HostRuntime,
     task: Task,
+    found: Option<FoundBlocks<Global>>,
     options: Options,
     opened: Begun<Patient<'_, HostRuntime, Opened>>,
     words: &[&str],
@@ -356,20 +445,17 @@ fn run_over(
         unjudged: Unjudged::new(rt.alloc()),
     };
     let mut writer = ToWrite::new(&output);
+    let reader = FromRead::new(input);
     let Performed {
         ending,
         told,
         passed,
         other_links,
         reader: _,
-    } = perform(
-        rt.alloc(),
-        task,
-        options,
-        FromRead::new(input),
-        &mut notes,
-        &mut writer,
-    );
+    } = match found {
+        Some(found) => replay_listed(rt.alloc(), found, options, reader, &mut notes, &mut writer),
+        None => perform(rt.alloc(), task, options, reader, &mut notes, &mut writer),
+    };
     let is_written = ending != Ending::WriteFault && output.hand_on().is_ok();
     let failure = failure_of(&output, &seen);
     output.let_go();

@@ -6,6 +6,7 @@ pub mod advice;
 pub mod block_fields;
 pub mod failure;
 pub mod head;
+pub mod left_out;
 pub mod links;
 pub mod passed;
 pub mod period;

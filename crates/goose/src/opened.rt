@@ -34,6 +34,17 @@ impl Opened {
             Some(name) => Ok(Opened::File(File::open(rt, name)?)),
         }
     }
+
+    /// Whether it is a regular file, of which the same can be read twice.
+    pub fn is_regular(&self) -> bool {
+        match self {
+            Opened::Standard(_) => false,
+            Opened::File(file) => match file.metadata() {
+                Ok(metadata) => metadata.is_file(),
+                Err(_) => false,
+            },
+        }
+    }
 }
 
 impl Read for Opened {

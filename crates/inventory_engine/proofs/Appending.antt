@@ -84,11 +84,11 @@ module _ {A : Type 0} (how : Telling) (s : Sighting) (known : Inventory A) where
   written_of_one : (e : List Sighting) → written_of how e (s ∷ []) ≡ line_after how s (newest e (key_of s))
   written_of_one e = append-nil (line_after how s (newest e (key_of s)))
 
-  newest_at : (e : List Sighting) (at : ℕ) (d : Known A) → Keeps known e → IsAt (by_key (key_of s)) (held known) at → newest e (key_of s) ≡ Some (known_text (get_or (held known) at d))
+  pub newest_at : (e : List Sighting) (at : ℕ) (d : Known A) → Keeps known e → IsAt (by_key (key_of s)) (held known) at → newest e (key_of s) ≡ Some (known_text (get_or (held known) at d))
   newest_at e at d k is =
       sym (k.same (key_of s)) ∙ present known_key known_text (held known) (key_of s) at d is.within (has_key (held known) (key_of s) at is d) (none_before key_cmp key_total known_key (held known) k.order (key_of s) at is d)
 
-  newest_gap : (e : List Sighting) (at : ℕ) → Keeps known e → IsGap (by_key (key_of s)) (held known) at → newest e (key_of s) ≡ None
+  pub newest_gap : (e : List Sighting) (at : ℕ) → Keeps known e → IsGap (by_key (key_of s)) (held known) at → newest e (key_of s) ≡ None
   newest_gap e at k gap = sym (k.same (key_of s)) ∙ absent known_key known_text (held known) (key_of s) (none_at_gap key_cmp key_total known_key (held known) (key_of s) at gap)
 
   keeps_on : (e : List Sighting) (after : Inventory A) → Keeps known e → IsCompact after → InOrder (held after) → Updates known_key known_text (held known) (held after) (key_of s) s.text → Keeps after (e ++ s ∷ [])

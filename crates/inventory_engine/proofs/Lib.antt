@@ -5,4 +5,6 @@ pub mod Newest
 pub mod Appending
 pub mod FirstLines
 pub mod BlockBack
+pub mod FirstBlocks
+pub mod SubscribedLines
 pub mod WorkedObjects

@@ -4,3 +4,4 @@ pub mod PieceText
 pub mod KnownTexts
 pub mod ShownFields
 pub mod BlocksStep
+pub mod FirstBlocks

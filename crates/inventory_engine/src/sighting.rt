@@ -108,8 +108,8 @@ fn put_names<A: Allocator>(line: &mut Vec<u8, A>, block: &ShownBlock<'_>) -> Res
     put_text_or(line, b",\"goID\":", block.go_id, b"null")
 }
 
-// Appends the fields of a control block, behind its text.
-fn put_name_fields<A: Allocator>(
+/// Appends the fields of a control block, behind its text.
+pub fn put_name_fields<A: Allocator>(
     line: &mut Vec<u8, A>,
     block: &ShownBlock<'_>,
 ) -> Result<(), AllocError>
@@ -285,8 +285,8 @@ fn put_other_block<A: Allocator + Copy>(
     }
 }
 
-// Appends what is written of the control block of a frame.
-fn put_block<A: Allocator + Copy>(
+/// Appends what is written of the control block of a frame.
+pub fn put_block<A: Allocator + Copy>(
     alloc: A,
     known: &mut Inventory<A>,
     line: &mut Vec<u8, A>,
@@ -362,8 +362,8 @@ fn put_stream<A: Allocator + Copy>(
     }
 }
 
-// Appends what is written of the streams of a frame's ASDUs.
-fn put_streams<A: Allocator + Copy>(
+/// Appends what is written of the streams of a frame's ASDUs.
+pub fn put_streams<A: Allocator + Copy>(
     alloc: A,
     known: &mut Inventory<A>,
     line: &mut Vec<u8, A>,

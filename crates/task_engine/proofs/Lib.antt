@@ -3,3 +3,4 @@ pub mod EventTaskLemmas
 pub mod PassedLemmas
 pub mod LinkLemmas
 pub mod AsBefore
+pub mod ListedLemmas

@@ -2,3 +2,4 @@ pub mod EventTasks
 pub mod InputText
 pub mod RequestText
 pub mod HandedOut
+pub mod ListedReplay

@@ -4,13 +4,16 @@
 
 mod advising;
 mod event_tasks;
+mod listing;
 mod over_events;
 mod performed;
 mod performing;
 mod stop;
 
 pub use crate::advising::Advice;
+pub use crate::listing::{Listed, list_blocks, replay_listed};
 pub use crate::performed::{Notes, Performed, Told};
 pub use crate::performing::perform;
 pub use crate::stop::Stop;
+pub use inventory_engine::{FoundBlocks, ListedBlock};
 pub use loss_engine::Unjudged;

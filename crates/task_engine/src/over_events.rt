@@ -111,8 +111,8 @@ fn over_passed_list<T: EventTask, R: Source, W: Sink>(
     of_passed_events(task.over(alloc, style, events, writer))
 }
 
-// The style that options ask for.
-fn style_of(options: Options) -> Style
+/// The style that options ask for.
+pub fn style_of(options: Options) -> Style
     ensures { result ≡ style_of options }
 {
     match options.writes {

@@ -100,11 +100,9 @@ replay_named None blocks t e = sym (ap (λ (m : Meaning). name_of (asked_or t (S
 replay_named (Some i) blocks t e = cc
 
 named_replay : HasName replaying
-named_replay rows t e = go (all_of (codes "BLOCK") rows) e
-  where
-    go : (o : Option (List Text)) → option_map replay_of o ≡ Some (Ok t) → name_of t ≡ name_of (replay [])
-    go None f = cc
-    go (Some texts) f = replay_named (first_bad_block texts) (blocks_in texts) t (ap (λ (m : Option Meaning). unwrap_or m (Ok t)) f)
+named_replay rows t e =
+    let said = unwrap_or (all_of (codes "BLOCK") rows) [] in
+    replay_named (first_bad_block said) (blocks_in said) t (ap (λ (m : Option Meaning). unwrap_or m (Ok t)) e)
 
 watch_named : (n : Option ℕ) (id : Option Text) (t : Asked) → option_and_then {U = Meaning} (λ k. option_map {U = Meaning} (λ x. Ok (watch k x)) id) n ≡ Some (Ok t)
     → name_of t ≡ name_of (watch 0 [])

@@ -16,7 +16,7 @@ use Rattle.clap.specs.Takes.{default_passes, is_given, is_valid, level_passes, s
 use Rattle.clap.specs.Walk.{Waiting, Walk, finished, has_row, idle, nothing_held, option, positional, rows_after, used, walked, with_default}
 use Rattle.block_core.specs.declared.block.Block.{Block}
 use Rattle.words_core.specs.declared.option_words.Options.{Options}
-use Rattle.words_core.specs.CommandLine.{AsksReplay, Meaning, block_rule, is_flag, replay, replay_of, replay_shape, task_asked}
+use Rattle.words_core.specs.CommandLine.{AsksReplay, Meaning, block_rule, is_flag, replay, replay_asked, replay_of, replay_shape, task_asked}
 use Rattle.words_core.specs.RequestLine.{Switch, capture, changes, is_on, is_option, is_replay_option, is_set, offered, replay_switches, request_asked, simulation, switch_name, switch_word, switches, times}
 use Rattle.words_core.proofs.KeptRows.{leaf, no_default}
 use Rattle.words_core.proofs.AskingWords.{line, stops}
@@ -150,19 +150,6 @@ waiting_counted : (rows : List Row) (texts : Texts) (n : Switch → ℕ) → Cou
 waiting_counted rows none n c = c
 waiting_counted rows (some text texts) n c = counted_past rows (with_waiting rows (some text texts)) n (λ o. more_other (codes "BLOCK") (switch_name o) (block_apart o) _ CommandLine (text ∷ texts) rows) c
 
--- where blocks have a row, they were given
-abbrev Explicit : List Row → Type 0
-Explicit rows = is_some (row_at (codes "BLOCK") rows) ≡ true → is_given (codes "BLOCK") rows ≡ true
-
-waiting_explicit : (rows : List Row) (texts : Texts) → Explicit rows → Explicit (with_waiting rows texts)
-waiting_explicit rows none x = x
-waiting_explicit rows (some text texts) x = λ there. more_given (codes "BLOCK") _ (text ∷ texts) rows
-
-option_explicit : (o : Switch) (rows : List Row) → Explicit rows → Explicit (use_switch o rows)
-option_explicit o rows x =
-    let same = set_other (switch_name o) (codes "BLOCK") (apart_from_block o) _ CommandLine _ rows in
-    subst (λ (r : Option Row). is_some r ≡ true → option_map_or (λ y. explicit_source y.source) r false ≡ true) (sym same) x
-
 -- ---- the walk over all arguments
 
 -- the texts among the arguments, and how often an option stands there
@@ -181,7 +168,6 @@ record Replays (rows : List Row) (texts : Texts) (n : Switch → ℕ) (arguments
   fits : Fits to_texts 0
   texts_are : block_texts (with_waiting to_rows to_texts) ≡ (block_texts rows ++ texts_of texts) ++ texts_in arguments
   counted : Counted to_rows (with_words n arguments)
-  explicit : Explicit (with_waiting to_rows to_texts)
 
 -- an option's word, and one that is none
 pub common_option : (word : Text) → is_option word ≡ true → (o : Switch) × (word ≡ switch_word o) × (is_common o ≡ true)
@@ -203,7 +189,6 @@ record Before (rows : List Row) (texts : Texts) (n : Switch → ℕ) (arguments 
   fits : Fits texts (length arguments)
   counted : Counted rows n
   most : (o : Switch) → with_words n arguments o ≤ 1
-  explicit : Explicit rows
 
 abbrev Later : List Text → Type 0
 Later arguments = (rows : List Row) (texts : Texts) (n : Switch → ℕ) → Before rows texts n arguments → Replays rows texts n arguments
@@ -223,7 +208,6 @@ at_text rows texts n word arguments later other b =
       fits = let f = b.fits in omega (arith, f, longer);
       counted = b.counted;
       most = λ o. subst (λ (k : ℕ). k ≤ 1) (words_past word arguments n o other) (b.most o);
-      explicit = b.explicit;
     }) in
     record {
       to_rows = rest.to_rows;
@@ -234,7 +218,6 @@ at_text rows texts n word arguments later other b =
       texts_are = rest.texts_are ∙ ap (λ (l : List Text). (block_texts rows ++ l) ++ texts_in arguments) (texts_with texts word) ∙ regroup (block_texts rows) (texts_of texts) word (texts_in arguments)
           ∙ sym (ap (λ (l : List Text). (block_texts rows ++ texts_of texts) ++ l) (kept word arguments other));
       counted = recounted rest.to_rows (with_words n arguments) (with_words n (word ∷ arguments)) (λ o. sym (words_past word arguments n o other)) rest.counted;
-      explicit = rest.explicit;
     }
   where
     regroup : (a b : List Text) (x : Text) (c : List Text) → (a ++ (b ++ x ∷ [])) ++ c ≡ (a ++ b) ++ x ∷ c
@@ -269,7 +252,6 @@ at_option rows texts n o arguments later b =
       fits = let f = b.fits in omega (arith, f);
       counted = counted_more o waiting n counted zero;
       most = λ p. subst (λ (k : ℕ). k ≤ 1) (sym (words_shift o p n arguments)) (b.most p);
-      explicit = option_explicit o waiting (waiting_explicit rows texts b.explicit);
     }) in
     let before : block_texts (use_switch o waiting) ++ [] ≡ block_texts rows ++ texts_of texts = append-nil (block_texts (use_switch o waiting)) ∙ option_leaves o waiting ∙ more_texts rows texts in
     record {
@@ -283,7 +265,6 @@ at_option rows texts n o arguments later b =
       fits = rest.fits;
       texts_are = rest.texts_are ∙ ap (λ (l : List Text). l ++ texts_in arguments) before ∙ sym (ap (λ (l : List Text). (block_texts rows ++ texts_of texts) ++ l) (left_out o arguments));
       counted = recounted rest.to_rows (with_words (one_more o n) arguments) (with_words n (switch_word o ∷ arguments)) (λ p. words_shift o p n arguments) rest.counted;
-      explicit = rest.explicit;
     }
   where
     left_out : (x : Switch) (c : List Text) → texts_in (switch_word x ∷ c) ≡ texts_in c
@@ -300,7 +281,6 @@ all_arguments [] rows texts n b = record {
   fits = let f = b.fits in omega (arith, f);
   texts_are = more_texts rows texts ∙ sym (append-nil (block_texts rows ++ texts_of texts));
   counted = recounted rows n (with_words n []) (λ o. omega arith) b.counted;
-  explicit = waiting_explicit rows texts b.explicit;
 }
 all_arguments (word ∷ arguments) rows texts n b = go (is_replay_option word) refl (all_arguments arguments)
   where
@@ -334,53 +314,36 @@ replay_set o = replay_leaves (is_set (switch_name o)) (default_set o)
 replay_defaults_pass : list_all default_passes replays.rules ≡ true
 replay_defaults_pass = refl
 
-replay_valid : (rows : List Row) → is_given (codes "BLOCK") rows ≡ true → is_valid replays rows false ≡ true
-replay_valid rows given = rw given refl
-
--- texts that are there stand in a row
-texts_there : (o : Option (List Text)) (text : Text) (texts : List Text) → unwrap_or o [] ≡ text ∷ texts → o ≡ Some (text ∷ texts)
-texts_there None text texts e = cc
-texts_there (Some l) text texts e = ap (λ (x : List Text). Some x) e
-
-row_there : (r : Option Row) (texts : List Text) → option_map (λ x. x.values) r ≡ Some texts → is_some r ≡ true
-row_there None texts e = cc
-row_there (Some r) texts e = refl
+replay_valid : (rows : List Row) → is_valid replays rows false ≡ true
+replay_valid rows = refl
 
 -- words that ask for a replay are taken, and it is theirs, with the options that stand among them
 pub replay_asked_for : (called : Text) (arguments : List Text) (blocks : List (Block Global)) (options : Options) → length arguments ≤ usize_max
     → AsksReplay (called ∷ codes "replay" ∷ texts_in arguments) blocks
     → ((o : Switch) → times (switch_word o) arguments ≡ (if is_on options o then 1 else 0)) → IsTaken (called ∷ codes "replay" ∷ arguments) (replay blocks) options
-replay_asked_for called arguments blocks options fits asks gives = go (texts_in arguments) refl asks
-  where
-    go : (l : List Text) → texts_in arguments ≡ l → AsksReplay (called ∷ codes "replay" ∷ l) blocks → IsTaken (called ∷ codes "replay" ∷ arguments) (replay blocks) options
-    go [] is a = absurd a
-    go (text ∷ texts) is a =
-        let r = all_arguments arguments [] none (λ o. 0) (record {
-          plain = subst (λ (l : List Text). list_any is_flag l ≡ false) (sym is) a.1;
-          fits = omega (arith, fits);
-          counted = none_yet;
-          most = λ o. let m = at_most (is_on options o) (times (switch_word o) arguments) (gives o) in omega (arith, m);
-          explicit = λ there. absurd (true≢false (sym there));
-        }) in
-        let end = with_waiting r.to_rows r.to_texts in
-        let last = fold with_default end replays.rules in
-        let rows_are : rows_after replays.rules [] arguments ≡ last =
-        ap (λ (w : Walk). finished replays.rules w.held) r.walks ∙ ap (λ (l : List Row). fold with_default l replays.rules) (settled_among r.to_rows r.to_texts) in
-        let given : all_of (codes "BLOCK") end ≡ Some (text ∷ texts) = texts_there (all_of (codes "BLOCK") end) text texts (r.texts_are ∙ is) in
-        let all : all_of (codes "BLOCK") last ≡ Some (text ∷ texts) = ap (option_map (λ x. x.values)) (block_default end) ∙ given in
-        let explicit : is_given (codes "BLOCK") last ≡ true =
-        ap (λ (x : Option Row). option_map_or (λ y. explicit_source y.source) x false) (block_default end) ∙ r.explicit (row_there (row_at (codes "BLOCK") end) (text ∷ texts) given) in
-        let sets : (o : Switch) → with_words (λ p. 0) arguments o ≡ (if is_set (switch_name o) (rows_after replays.rules [] arguments) then 1 else 0) = λ o. set_where_given end (with_words (λ p. 0) arguments) o (waiting_counted r.to_rows r.to_texts (with_words (λ p. 0) arguments) r.counted)
-        ∙ sym (ap once_if (ap (is_set (switch_name o)) rows_are ∙ replay_set o end)) in
-        let passes : level_passes replays [] nothing_held arguments false ≡ true =
-        both_true _ _ r.passes
-        (both_true _ _ (subst (λ (w : Walk). settle_passes replays.rules false w.held ≡ true) (sym r.walks) (waiting_passes r.to_rows r.to_texts 0 r.fits))
-        (both_true _ _ (replay_defaults_pass) (subst (λ (l : List Row). is_valid replays l false ≡ true) (sym rows_are) (replay_valid last explicit)))) in
-        let asks_so : option_map replay_of (all_of (codes "BLOCK") (rows_after replays.rules [] arguments)) ≡ Some (Ok (replay blocks)) =
-        ap (λ (l : List Row). option_map replay_of (all_of (codes "BLOCK") l)) rows_are ∙ ap (option_map replay_of) all ∙ ap (λ (m : Meaning). Some m) (all_said blocks (text ∷ texts) (sym a.2)) in (
-          ap (λ (o : Option (Text × List Text)). option_and_then request_asked (entered line o)) (stops (codes "replay") (codes "replay") arguments refl)
-              ∙ wished options (rows_after replays.rules [] arguments) (with_words (λ p. 0) arguments) (replay blocks) (task_asked (codes "replay", rows_after replays.rules [] arguments))
-              asks_so sets
-              (λ o. let g = gives o in omega (arith, g)),
-          taken_behind called (codes "replay") arguments refl refl passes,
-        )
+replay_asked_for called arguments blocks options fits asks gives =
+    let r = all_arguments arguments [] none (λ o. 0) (record {
+      plain = asks.1;
+      fits = omega (arith, fits);
+      counted = none_yet;
+      most = λ o. let m = at_most (is_on options o) (times (switch_word o) arguments) (gives o) in omega (arith, m);
+    }) in
+    let end = with_waiting r.to_rows r.to_texts in
+    let last = fold with_default end replays.rules in
+    let rows_are : rows_after replays.rules [] arguments ≡ last =
+    ap (λ (w : Walk). finished replays.rules w.held) r.walks ∙ ap (λ (l : List Row). fold with_default l replays.rules) (settled_among r.to_rows r.to_texts) in
+    let all : block_texts last ≡ texts_in arguments = ap (λ (x : Option Row). unwrap_or (option_map (λ y. y.values) x) []) (block_default end) ∙ r.texts_are in
+    let sets : (o : Switch) → with_words (λ p. 0) arguments o ≡ (if is_set (switch_name o) (rows_after replays.rules [] arguments) then 1 else 0) = λ o. set_where_given end (with_words (λ p. 0) arguments) o (waiting_counted r.to_rows r.to_texts (with_words (λ p. 0) arguments) r.counted)
+    ∙ sym (ap once_if (ap (is_set (switch_name o)) rows_are ∙ replay_set o end)) in
+    let passes : level_passes replays [] nothing_held arguments false ≡ true =
+    both_true _ _ r.passes
+    (both_true _ _ (subst (λ (w : Walk). settle_passes replays.rules false w.held ≡ true) (sym r.walks) (waiting_passes r.to_rows r.to_texts 0 r.fits))
+    (both_true _ _ (replay_defaults_pass) (replay_valid (rows_after replays.rules [] arguments)))) in
+    let asks_so : replay_asked (rows_after replays.rules [] arguments) ≡ Some (Ok (replay blocks)) =
+    ap replay_asked rows_are ∙ ap (λ (l : List Text). Some (replay_of l)) all ∙ ap (λ (m : Meaning). Some m) (all_said blocks (texts_in arguments) (sym asks.2)) in (
+      ap (λ (o : Option (Text × List Text)). option_and_then request_asked (entered line o)) (stops (codes "replay") (codes "replay") arguments refl)
+          ∙ wished options (rows_after replays.rules [] arguments) (with_words (λ p. 0) arguments) (replay blocks) (task_asked (codes "replay", rows_after replays.rules [] arguments))
+          asks_so sets
+          (λ o. let g = gives o in omega (arith, g)),
+      taken_behind called (codes "replay") arguments refl refl passes,
+    )

@@ -8,8 +8,8 @@ use Rattle.loss_core.specs.Periods.{Period}
 use Rattle.words_core.specs.declared.option_words.Writing.{Writing}
 use Rattle.words_core.specs.declared.option_words.Writing.TheVariants.{Lines, Dated, Objects}
 use Rattle.words_core.specs.declared.option_words.Options.{Options}
-use Rattle.words_core.specs.RequestLine.{Wish, file_of_words, options_in, request_faults, request_line, request_of_words, task_of_words}
-use Rattle.words_core.specs.CommandLine.{Asked, block_at, check, import, list_blocks, losses, no_block, no_period, publish, replay_of, rewrite, show, watch}
+use Rattle.words_core.specs.RequestLine.{Wish, file_of_words, options_in, request_faults, request_line, request_of_words, takes_request, task_of_words, word_faults}
+use Rattle.words_core.specs.CommandLine.{Asked, block_at, check, import, list_blocks, losses, no_block, no_period, publish, replay, replay_of, rewrite, show, watch}
 
 -- each command without arguments asks for its task
 pub record AreNames : Type 0 where
@@ -57,6 +57,18 @@ pub record AreWatches : Type 0 where
 pub watches : AreWatches
 unfolding clap_on_literals
 watches = record { two = refl; most = refl; joined = refl }
+
+-- `replay` without a BLOCK asks for a replay of no control block, which must have one where a word is asked for
+pub record AreUnnamed : Type 0 where
+  pub none : task_of_words (codes "goose" ∷ codes "replay" ∷ []) ≡ Some (Ok (replay []))
+  pub behind_a_file : task_of_words (codes "goose" ∷ codes "replay" ∷ codes "-r" ∷ codes "a.pcap" ∷ codes "--changes" ∷ []) ≡ Some (Ok (replay []))
+  pub taken : takes_request (codes "goose" ∷ codes "replay" ∷ []) ≡ true
+  pub missing : word_faults (codes "goose" ∷ codes "replay" ∷ []) ≡ kind.MissingRequiredArgument ∷ []
+  pub of_another : word_faults (codes "goose" ∷ codes "show" ∷ []) ≡ []
+
+pub unnamed : AreUnnamed
+unfolding clap_on_literals
+unnamed = record { none = refl; behind_a_file = refl; taken = refl; missing = refl; of_another = refl }
 
 -- a request with these options
 abbrev wishes : Asked → Bool → Bool → Writing → Option Wish

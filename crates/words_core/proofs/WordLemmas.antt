@@ -8,7 +8,7 @@ use Rattle.clap.specs.Words.{App, HasKind, IsAmong, Kinds, Row, Shape, Text, all
 use Rattle.clap.specs.Kinds.{check_kinds, or_else}
 use Rattle.clap.specs.Faults.{entered_fault, level_fault, walk_fault}
 use Rattle.clap.specs.Simple.{argument_words, entered, names_of, rows_at}
-use Rattle.clap.specs.Takes.{is_given}
+use Rattle.clap.proofs.WalkLemmas.{both}
 use Rattle.clap.specs.Walk.{Held, Names, nothing_held, rows_after, stop_after, walk_from}
 use Rattle.clap.specs.declared.parser.matches.ArgMatches.{ArgMatches}
 use Rattle.clap.specs.declared.parser.matches.ArgMatches.TheViews.{out-ArgMatches, out-SubCommand}
@@ -22,14 +22,14 @@ use Rattle.words_core.specs.declared.words.Task.{Task}
 use Rattle.words_core.specs.declared.words.WordsError.{WordsError}
 use Rattle.words_core.specs.declared.words.WordsError.TheVariants as refused
 use Rattle.words_core.proofs.AskingWords.{asked_or}
-use Rattle.words_core.proofs.KeptRows.{first_none, leaf, level_checked, then_none, wanted}
+use Rattle.words_core.proofs.KeptRows.{first_none, leaf, level_checked, then_none}
 use Rattle.words_core.proofs.WatchRows.{watch_says}
 use Rattle.words_core.proofs.LossesRows.{AreInRange, losses_say, texts_in}
-use Rattle.words_core.specs.CommandLine.{AnswersTask, AnswersUnsaid, Asked, HasPeriod, IsNoMistake, IsUnsaid, Meaning, Unsaid, asked_by, blocks_in, check, first_bad_block, import, is_plain, list_blocks, losses, losses_of, losses_shape, no_block, no_period, plain, publish, replay, replay_of, replay_shape, rewrite, show, task_asked, watch, watch_shape}
+use Rattle.words_core.specs.CommandLine.{AnswersTask, AnswersUnsaid, Asked, HasPeriod, IsNoMistake, IsUnsaid, Meaning, Unsaid, asked_by, blocks_in, check, first_bad_block, import, is_plain, list_blocks, losses, losses_of, losses_shape, names_blocks, no_block, no_period, plain, publish, replay, replay_of, replay_shape, rewrite, show, task_asked, watch, watch_shape}
 use Rattle.std.specs.List.{list_any}
-use Rattle.words_core.specs.RequestLine.{AnswersRequest, AsksWith, MayRefuseRequest, RefusesUnsaid, Wish, is_reading, offered, options_in, request_asked, request_faults, request_line, request_of_words, task_of_words, with_these}
+use Rattle.words_core.specs.RequestLine.{AnswersRequest, Asks, AsksWith, MayRefuseRequest, MayRefuseWords, RefusesUnsaid, Wish, is_reading, meaning_names_blocks, offered, options_in, request_asked, request_faults, request_line, request_of_words, takes_request, takes_words, task_of_words, with_these, word_faults}
 use Rattle.words_core.specs.computed.PrivateCalls.{MayAnswer}
-use Rattle.words_core.specs.computed.OfferedLine.{IsExclusion, MayGrant}
+use Rattle.words_core.specs.computed.OfferedLine.{IsExclusion, IsUnnamed, MayGrant}
 
 -- where a subcommand is required and the last checks pass, there is one
 checked : (has help required argument : Bool) → required ≡ true → check_kinds (not has && help) (not has && required) argument ≡ [] → has ≡ true
@@ -115,17 +115,8 @@ pub met : (m : ArgMatches) (name : Text) (rows : List Row) → subcommand_name_o
     → option_map (λ (p : Text × List Row). p.1) (subcommand_rows_of m) ≡ Some rows → subcommand_rows_of m ≡ Some (name, rows)
 met m name rows e f = met_rows (out-ArgMatches m).subcommand name rows e f
 
--- an argument that is given has values
-a_row : (id : Text) (rows : List Row) → (not (is_given id rows) || false) ≡ false → is_some (all_of id rows) ≡ true
-a_row id rows e = go (find (λ r. bytes_eq r.id id) rows) refl
-  where
-    go : (o : Option Row) → find (λ r. bytes_eq r.id id) rows ≡ o → is_some (all_of id rows) ≡ true
-    go None f = let bad : true ≡ false = rw f at e in cc
-    go (Some r) f = rw f refl
-
-replay_asked : (o : Option (List Text)) → is_some o ≡ true → IsAsked (option_map replay_of o)
-replay_asked None e = absurd (true≢false (sym e))
-replay_asked (Some texts) e = go (first_bad_block texts)
+replay_asks : (texts : List Text) → IsAsked (Some (replay_of texts))
+replay_asks texts = go (first_bad_block texts)
   where
     go : (o : Option ℕ) → IsAsked (Some (option_map_or (λ i. Err (no_block i)) o (Ok (replay (blocks_in texts)))))
     go None = tt
@@ -143,9 +134,7 @@ plain_gives takes (watch period id) e words f = absurd (true≢false (sym e))
 plain_gives takes (losses periods) e words f = absurd (true≢false (sym e))
 
 replay_gives : AsksForSomething (leaf (offered true replay_shape))
-replay_gives words f =
-    let rows = rows_after (leaf (offered true replay_shape)).rules [] words in
-    replay_asked (all_of (codes "BLOCK") rows) (a_row (codes "BLOCK") rows (wanted false false _ (level_checked (leaf (offered true replay_shape)) [] nothing_held words false [] f)))
+replay_gives words f = replay_asks (unwrap_or (all_of (codes "BLOCK") (rows_after (leaf (offered true replay_shape)).rules [] words)) [])
 
 watch_gives : AsksForSomething (leaf (offered true watch_shape))
 watch_gives words f = let says = watch_says words f in rw says.2 says.3
@@ -359,6 +348,68 @@ pub unsaid_refused : (words : List Text) (u : Unsaid) (answer : Answer) → IfOk
     → request_of_words words ≡ Some (Err u) → RefusesUnsaid u answer
 unsaid_refused words u (Ok r) granted may none bad = let other : Some (Ok (asked_by r.task, r.options)) ≡ Some (Err u) = sym granted ∙ bad in cc
 unsaid_refused words u (Err e) granted may none bad = unsaid_alone words u e none (unsaid_wished words u bad) may
+
+-- ---- a replay must have a control block
+
+-- words that are answered with a task that has one where it must
+pub named_faultless : (words : List Text) (t : Asked) (options : Options) → request_faults words ≡ [] → request_of_words words ≡ Some (Ok (t, options)) → names_blocks t ≡ true → word_faults words ≡ []
+named_faultless words t options none wish named = let task = task_wished words t options wish in rw (none, task, named) refl
+
+-- words that ask for a replay of none may be refused by that, and are not taken so
+pub unnamed_refused : (words : List Text) (t : Asked) (options : Options) (e : WordsError) → request_faults words ≡ [] → request_of_words words ≡ Some (Ok (t, options)) → names_blocks t ≡ false → IsUnnamed e → MayRefuseWords words e
+unnamed_refused words t options (refused.Words error) none wish unnamed is = let task = task_wished words t options wish in rw (none, task, unnamed) (inl is)
+unnamed_refused words t options (refused.Block i) none wish unnamed is = absurd is
+unnamed_refused words t options (refused.Period i) none wish unnamed is = absurd is
+unnamed_refused words t options refused.Memory none wish unnamed is = tt
+
+pub unnamed_not_taken : (words : List Text) (t : Asked) (options : Options) → request_of_words words ≡ Some (Ok (t, options)) → names_blocks t ≡ false → takes_words words ≡ true → ⊥
+unnamed_not_taken words t options wish unnamed taken =
+    let task = task_wished words t options wish in
+    let parts = both (takes_request words) (meaning_names_blocks (task_of_words words)) taken in
+    true≢false (sym parts.1 ∙ ap meaning_names_blocks task ∙ unnamed)
+
+-- this task is answered, where it has one where it must, else that is said
+abbrev pub Named : Task → Result Task WordsError → Type 0
+Named t answer = IfOk answer (λ u. (u ≡ t) × (names_blocks (asked_by t) ≡ true)) × IfErr answer (λ e. IsUnnamed e × (names_blocks (asked_by t) ≡ false))
+
+module _ (words : List Text) (t : Task) (options : Options) where
+  pub words_found : (answer : Result Task WordsError) → Named t answer → (is_plain (asked_by t) ≡ true → list_any is_reading words ≡ false → AsksWith words (asked_by t) options)
+      → IfOk answer (λ u. is_plain (asked_by u) ≡ true → list_any is_reading words ≡ false → Asks words (asked_by u))
+  words_found (Ok u) n asks = subst (λ (x : Task). is_plain (asked_by x) ≡ true → list_any is_reading words ≡ false → Asks words (asked_by x)) (sym n.0.0) (λ plainly reading. (options, n.0.1, asks plainly reading))
+  words_found (Err e) n asks = tt
+
+  pub words_only : (answer : Result Task WordsError) → Named t answer → ((asked : Asked) (given : Options) → AsksWith words asked given → asked_by t ≡ asked) → (asked : Asked) → Asks words asked → AnswersTask asked answer
+  words_only (Ok u) n only asked asks = ap asked_by n.0.0 ∙ only asked asks.0 asks.2
+  words_only (Err e) n only asked asks = absurd (true≢false (sym asks.1 ∙ ap names_blocks (sym (only asked asks.0 asks.2)) ∙ n.1.1))
+
+  -- what holds of the task holds of the one that is answered
+  pub words_as : (Is : Task → Type 0) (answer : Result Task WordsError) → Named t answer → Is t → IfOk answer Is
+  words_as Is (Ok u) n is = subst Is (sym n.0.0) is
+  words_as Is (Err e) n is = tt
+
+  pub words_named : (answer : Result Task WordsError) → Named t answer → IfOk answer (λ u. names_blocks (asked_by u) ≡ true)
+  words_named (Ok u) n = ap (λ (x : Task). names_blocks (asked_by x)) n.0.0 ∙ n.0.1
+  words_named (Err e) n = tt
+
+  module _ (wish : request_of_words words ≡ Some (Ok (asked_by t, options))) where
+    pub words_faultless : (answer : Result Task WordsError) → Named t answer → request_faults words ≡ [] → IfOk answer (λ u. word_faults words ≡ [])
+    words_faultless (Ok u) n none = named_faultless words (asked_by t) options none wish n.0.1
+    words_faultless (Err e) n none = tt
+
+    pub words_taken : (answer : Result Task WordsError) → Named t answer → takes_words words ≡ true → IfErr answer IsNoMistake
+    words_taken (Ok u) n taken = tt
+    words_taken (Err e) n taken = absurd (unnamed_not_taken words (asked_by t) options wish n.1.1 taken)
+
+    pub words_refused : (answer : Result Task WordsError) → Named t answer → request_faults words ≡ [] → IfErr answer (MayRefuseWords words)
+    words_refused (Ok u) n none = tt
+    words_refused (Err e) n none = unnamed_refused words (asked_by t) options e none wish n.1.1 n.1.0
+
+-- what is refused otherwise may be refused here
+pub refused_so : (words : List Text) (e : WordsError) → MayRefuseRequest words e → MayRefuseWords words e
+refused_so words (refused.Words error) may = among_first (kind_of error) (request_faults words) _ may
+refused_so words (refused.Block i) may = may
+refused_so words (refused.Period i) may = may
+refused_so words refused.Memory may = may
 
 -- ---- the command line is such that `clap` says what it does
 

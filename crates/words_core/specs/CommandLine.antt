@@ -71,6 +71,16 @@ takes_options publish = false
 takes_options import = false
 takes_options _ = true
 
+-- there is a control block among these
+abbrev pub has_block : List (Block Global) → Bool
+has_block [] = false
+has_block (block ∷ blocks) = true
+
+-- the task is no replay, or one of a control block at least
+abbrev pub names_blocks : Asked → Bool
+names_blocks (replay blocks) = has_block blocks
+names_blocks _ = true
+
 -- the period of a watch is one that a watch may have, and so is each that is given for losses
 abbrev pub HasPeriod : Asked → Type 0
 HasPeriod (watch period id) = IsPeriod period
@@ -114,9 +124,9 @@ blocks_in = filter_map block_at
 abbrev pub replay_of : List Text → Meaning
 replay_of texts = option_map_or (λ i. Err (no_block i)) (first_bad_block texts) (Ok (replay (blocks_in texts)))
 
--- the argument BLOCK: one word or more
+-- the argument BLOCK: words, or none
 abbrev pub block_rule : Rule
-block_rule = record (new_rule (codes "BLOCK")) { required = true; range = Some (record { start_inclusive = 1; end_inclusive = usize_max }) }
+block_rule = record (new_rule (codes "BLOCK")) { range = Some (record { start_inclusive = 1; end_inclusive = usize_max }) }
 
 -- an option without a value, by this name
 abbrev pub option_named : Text → Rule
@@ -133,9 +143,13 @@ simulation_rule = option_named (codes "simulation")
 abbrev pub replay_shape : Shape
 replay_shape = (with_rule (with_rule (with_rule (new_app (codes "replay")) block_rule) changes_rule) simulation_rule).top
 
+-- the replay that the words BLOCK say; where there is none, of no control block
+abbrev pub replay_asked : List Row → Option Meaning
+replay_asked rows = Some (replay_of (unwrap_or (all_of (codes "BLOCK") rows) []))
+
 -- the subcommand of a replay
 abbrev pub replaying : Subcommand
-replaying = record { shape = replay_shape; has_options = true; task = λ rows. option_map replay_of (all_of (codes "BLOCK") rows) }
+replaying = record { shape = replay_shape; has_options = true; task = replay_asked }
 
 -- the option --period: a number of counts that a watch may have
 abbrev pub period_rule : Rule
@@ -242,11 +256,10 @@ abbrev pub is_flag : Text → Bool
 is_flag [] = false
 is_flag (c ∷ cs) = c == 45
 
--- the program's name, `replay`, and then one text or more, none of which begins with a hyphen, which
+-- the program's name, `replay`, and then texts, or none, none of which begins with a hyphen, which
 -- say these control blocks in order
 abbrev pub AsksReplay : List Text → List (Block Global) → Type 0
-AsksReplay (called ∷ word ∷ text ∷ texts) blocks =
-    (word ≡ codes "replay") × (list_any is_flag (text ∷ texts) ≡ false) × (map block_at (text ∷ texts) ≡ map Some blocks)
+AsksReplay (called ∷ word ∷ texts) blocks = (word ≡ codes "replay") × (list_any is_flag texts ≡ false) × (map block_at texts ≡ map Some blocks)
 AsksReplay _ blocks = ⊥
 
 -- an option by its name and this value: as two words, where the value begins with no hyphen, or as one with

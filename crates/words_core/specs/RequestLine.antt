@@ -17,7 +17,7 @@ use Rattle.words_core.specs.declared.option_words.Writing.TheVariants.{Lines, Da
 use Rattle.words_core.specs.declared.words.Request.{Request}
 use Rattle.words_core.specs.declared.words.WordsError.{WordsError}
 use Rattle.words_core.specs.declared.words.WordsError.TheVariants as refused
-use Rattle.words_core.specs.CommandLine.{Asked, AsksReplay, AsksWatch, IsUnsaid, Meaning, SaysOption, Unsaid, no_block, no_period, asked_by, bare_program, losses, name_of, option_named, replay, subcommands, takes_options, task_asked, watch}
+use Rattle.words_core.specs.CommandLine.{Asked, AsksReplay, AsksWatch, IsUnsaid, Meaning, SaysOption, Unsaid, no_block, no_period, asked_by, bare_program, losses, name_of, names_blocks, option_named, replay, subcommands, takes_options, task_asked, watch}
 use Rattle.block_core.specs.Period.{IsPeriod}
 use Rattle.loss_core.specs.Periods.{Period}
 
@@ -254,9 +254,9 @@ AsksWith words (watch period id) options = AsksWatchWith words period id options
 AsksWith words (losses periods) options = AsksLossesWith words periods options
 AsksWith words t options = AsksByNameWith words t options
 
--- the words ask for this task, with whichever options
+-- the words ask for this task, with whichever options; for a replay by a control block at least
 abbrev pub Asks : List Text → Asked → Type 0
-Asks words t = (options : Options) × AsksWith words t options
+Asks words t = (options : Options) × (names_blocks t ≡ true) × AsksWith words t options
 
 -- the words may be refused so: by one of their faults, by the first text that says no control block, or no period,
 -- where they have no fault, or because memory was refused
@@ -265,6 +265,24 @@ MayRefuseRequest words (refused.Words error) = IsAmong (kind_of error) (request_
 MayRefuseRequest words (refused.Block i) = (request_faults words ≡ []) × (request_of_words words ≡ Some (Err (no_block i)))
 MayRefuseRequest words (refused.Period i) = (request_faults words ≡ []) × (request_of_words words ≡ Some (Err (no_period i)))
 MayRefuseRequest words refused.Memory = Unit {0}
+
+-- what is meant is no replay, or one of a control block at least
+abbrev pub meaning_names_blocks : Option Meaning → Bool
+meaning_names_blocks (Some (Ok t)) = names_blocks t
+meaning_names_blocks _ = true
+
+-- what may be wrong with words of which a replay must have a control block: what may be wrong with them otherwise, or that it has none
+abbrev pub word_faults : List Text → Kinds
+word_faults words = or_else (request_faults words) (if meaning_names_blocks (task_of_words words) then [] else kind.MissingRequiredArgument ∷ [])
+
+-- the words are taken, and a replay has a control block
+abbrev pub takes_words : List Text → Bool
+takes_words words = takes_request words && meaning_names_blocks (task_of_words words)
+
+-- words of which a replay must have a control block may be refused so
+abbrev pub MayRefuseWords : List Text → WordsError → Type 0
+MayRefuseWords words (refused.Words error) = IsAmong (kind_of error) (word_faults words)
+MayRefuseWords words error = MayRefuseRequest words error
 
 -- this task with these options is answered, refused memory aside
 abbrev pub AnswersRequest : Asked → Options → Result Request WordsError → Type 0

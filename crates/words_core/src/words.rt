@@ -5,12 +5,12 @@ ghost use Rattle.clap.specs.Words.{App, all_of, app_of, first_of, found_of, kind
 ghost use Rattle.clap.specs.Walk.{texts};
 ghost use Rattle.clap.specs.declared.error.kind.ErrorKind.TheVariants.{OutOfMemory};
 ghost use Rattle.words_core.specs.CommandLine.{AnswersTask, AnswersUnsaid, Asked, HasPeriod, IsNoMistake, Unsaid};
-ghost use Rattle.words_core.specs.CommandLine.{asked_by, bare_program, block_rule, id_rule, is_plain, losing, losses_asked};
-ghost use Rattle.words_core.specs.CommandLine.{losses_of, name_of, period_rule, readers, replay_of, replaying, stream_period_rule, task_asked, watch, watch_asked, watching};
+ghost use Rattle.words_core.specs.CommandLine.{asked_by, bare_program, block_rule, id_rule, is_plain, losing, losses_asked, names_blocks};
+ghost use Rattle.words_core.specs.CommandLine.{losses_of, name_of, period_rule, readers, replay_asked, replay_of, replaying, stream_period_rule, task_asked, watch, watch_asked, watching};
 ghost use Rattle.words_core.specs.computed.PrivateCalls.{AnswersWords, MayAnswer};
-ghost use Rattle.words_core.specs.RequestLine.{AnswersRequest, Asks, AsksWith, MayRefuseRequest, RefusesUnsaid, file_asked, file_of_words};
-ghost use Rattle.words_core.specs.RequestLine.{is_reading, offered, request_asked, request_faults, request_line, request_of_words, takes_request, task_of_words};
-ghost use Rattle.words_core.specs.computed.OfferedLine.{IsApp, IsExclusion, IsLocal, MayGrant};
+ghost use Rattle.words_core.specs.RequestLine.{AnswersRequest, Asks, AsksWith, MayRefuseRequest, MayRefuseWords, RefusesUnsaid, file_asked, file_of_words};
+ghost use Rattle.words_core.specs.RequestLine.{is_reading, offered, request_asked, request_faults, request_line, request_of_words, takes_request, takes_words, task_of_words, word_faults};
+ghost use Rattle.words_core.specs.computed.OfferedLine.{IsApp, IsExclusion, IsLocal, IsUnnamed, MayGrant};
 
 use crate::option_words::{Made, Options, flag_option, options_met, with_arg, with_offering};
 use crate::period_words::{PeriodError, read_period};
@@ -32,7 +32,7 @@ pub enum Task {
     Rewrite,
     /// One line a control block or a stream that a list holds, and one where its configuration changes.
     Blocks,
-    /// One line an entry of a subscriber of these control blocks.
+    /// One line an entry of a subscriber of these control blocks; words that name none have none here.
     Replay(Vec<Block<Global>, Global>),
     /// The list of frames that a publisher sends by a script.
     Publish,
@@ -210,14 +210,15 @@ fn with_plain<'a>(
     with_offering(alloc, program, plain, takes_options)
 }
 
-// The words of `replay`: the texts of its control blocks, one or more.
+// The words of `replay`: the texts of its control blocks, if there are any.
 fn block_words<'a>(alloc: Global) -> Arg<'a>
     ensures rule { rule_of result ≡ block_rule }
     ensures local { result.global ≡ false }
 {
-    Arg::new(alloc, "BLOCK").required(true).num_args(1..).help(
+    Arg::new(alloc, "BLOCK").num_args(1..).help(
         "A control block: APPID,gocbRef,datSet,goID,confRev,entries, as 0001,IED1LD/LLN0$GO$gcb,IED1LD/LLN0$ds,,1,2. \
-         APPID has 4 hexadecimal digits; an empty goID is not compared; entries is the number of members. Put it in single quotes: $ names a variable in a shell",
+         APPID has 4 hexadecimal digits; an empty goID is not compared; entries is the number of members. Put it in single quotes: $ names a variable in a shell. \
+         With -r FILE and without a BLOCK: all those that goose blocks -r FILE lists",
     )
 }
 
@@ -413,12 +414,12 @@ fn replay_task(alloc: Global, words: &[&str]) -> Result<Task, WordsError>
 }
 
 // The task of the matches of `replay`.
-fn replay_met(alloc: Global, matches: &ArgMatches<'_>) -> Option<Result<Task, WordsError>>
-    ensures { MayAnswer (option_map replay_of (all_of (codes "BLOCK") (rows_of (found_of matches.now)))) result }
+fn replay_met(alloc: Global, matches: &ArgMatches<'_>) -> Result<Task, WordsError>
+    ensures { MayAnswer (replay_asked (rows_of (found_of matches.now))) (Some result) }
 {
     match matches.get_raw("BLOCK") {
-        Some(words) => Some(replay_task(alloc, words)),
-        None => None,
+        Some(words) => replay_task(alloc, words),
+        None => replay_task(alloc, &[]),
     }
 }
 
@@ -480,7 +481,7 @@ fn task_of(alloc: Global, name: &str, matches: &ArgMatches<'_>) -> Option<Result
         "check" => Some(Ok(Task::Check)),
         "rewrite" => Some(Ok(Task::Rewrite)),
         "blocks" => Some(Ok(Task::Blocks)),
-        "replay" => replay_met(alloc, matches),
+        "replay" => Some(replay_met(alloc, matches)),
         "publish" => Some(Ok(Task::Publish)),
         "watch" => watch_met(alloc, matches),
         "losses" => Some(losses_met(alloc, matches)),
@@ -585,7 +586,8 @@ fn read_line<'a>(alloc: Global, words: &'a [&'a str]) -> Result<Request<'a>, Wor
 
 /// The task that the words ask for, its options, `--capture`, `--skip-other`, `--unwrap`, `--raw`, `--time` and `--json`, which the commands
 /// `show`, `check`, `blocks`, `replay`, `watch` and `losses` take, and `--changes` and `--simulation` of `replay` alone, and the
-/// file that it is to read, `-r` or `--read`, which all take. The first word is the program's name.
+/// file that it is to read, `-r` or `--read`, which all take. The first word is the program's name. Where `replay` has no BLOCK, the
+/// task is a replay of no control block: it is for the caller to take those of the file, or to refuse.
 ///
 /// # Errors
 ///
@@ -606,23 +608,61 @@ pub fn read_request<'a>(alloc: Global, words: &'a [&'a str]) -> Result<Request<'
     read_line(alloc, words)
 }
 
-/// The task that the words ask for, whatever options stand beside it: the task of [`read_request`].
+// What is told of a replay without a control block.
+const UNNAMED: &str = "the following required arguments were not provided: <BLOCK>...";
+
+// A replay has no control block.
+fn unnamed(alloc: Global) -> WordsError
+    ensures { IsUnnamed result }
+{
+    let mut program = Command::new(alloc, "goose").override_usage("goose replay <BLOCK>...");
+    match program.error(ErrorKind::MissingRequiredArgument, UNNAMED) {
+        Ok(error) => WordsError::Words(error),
+        Err(_) => WordsError::Memory,
+    }
+}
+
+// The task is no replay, or one of a control block at least.
+fn names_blocks(task: &Task) -> bool
+    ensures { result ≡ names_blocks (asked_by task.now) }
+{
+    match task {
+        Task::Replay(blocks) => !blocks.is_empty(),
+        _ => true,
+    }
+}
+
+// The task, where it is no replay, or one of a control block at least.
+fn with_blocks(alloc: Global, task: Task) -> Result<Task, WordsError>
+    ensures named { IfOk result (λ t. (t ≡ task) × (names_blocks (asked_by task) ≡ true)) }
+    ensures unnamed { IfErr result (λ e. IsUnnamed e × (names_blocks (asked_by task) ≡ false)) }
+{
+    if names_blocks(&task) {
+        Ok(task)
+    } else {
+        Err(unnamed(alloc))
+    }
+}
+
+/// The task that the words ask for, whatever options stand beside it: the task of [`read_request`], where a replay must have a
+/// control block.
 ///
 /// # Errors
 ///
-/// As of [`read_request`].
+/// As of [`read_request`], and `Words` for a replay without a BLOCK.
 pub fn read_words<'a>(alloc: Global, words: &'a [&'a str]) -> Result<Task, WordsError>
     ensures found { IfOk result (λ t. is_plain (asked_by t) ≡ true → list_any is_reading (texts words.now) ≡ false → Asks (texts words.now) (asked_by t)) }
     ensures only { (asked : Asked) → Asks (texts words.now) asked → AnswersTask asked result }
+    ensures named { IfOk result (λ t. names_blocks (asked_by t) ≡ true) }
     ensures period { IfOk result (λ t. HasPeriod (asked_by t)) }
     ensures task { IfOk result (λ t. task_of_words (texts words.now) ≡ Some (Ok (asked_by t))) }
-    ensures faultless { IfOk result (λ t. request_faults (texts words.now) ≡ []) }
-    ensures taken { takes_request (texts words.now) ≡ true → IfErr result IsNoMistake }
-    ensures refused { IfErr result (MayRefuseRequest (texts words.now)) }
+    ensures faultless { IfOk result (λ t. word_faults (texts words.now) ≡ []) }
+    ensures taken { takes_words (texts words.now) ≡ true → IfErr result IsNoMistake }
+    ensures refused { IfErr result (MayRefuseWords (texts words.now)) }
     ensures unsaid { (unsaid : Unsaid) → request_faults (texts words.now) ≡ [] → request_of_words (texts words.now) ≡ Some (Err unsaid) → AnswersUnsaid unsaid result }
 {
     match read_request(alloc, words) {
-        Ok(request) => Ok(request.task),
+        Ok(request) => with_blocks(alloc, request.task),
         Err(error) => Err(error),
     }
 }

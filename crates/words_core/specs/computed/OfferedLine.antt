@@ -28,6 +28,13 @@ IsExclusion (refused.Block i) = ⊥
 IsExclusion (refused.Period i) = ⊥
 IsExclusion refused.Memory = Unit {0}
 
+-- a replay has no control block, or memory was refused
+abbrev pub IsUnnamed : WordsError → Type 0
+IsUnnamed (refused.Words error) = kind_of error ≡ kind.MissingRequiredArgument
+IsUnnamed (refused.Block i) = ⊥
+IsUnnamed (refused.Period i) = ⊥
+IsUnnamed refused.Memory = Unit {0}
+
 -- what is wished for is answered, refused memory aside
 abbrev pub AnswersWish : Wish → Result Request WordsError → Type 0
 AnswersWish (Ok wish) answer = AnswersRequest wish.0 wish.1 answer

@@ -1,0 +1,31 @@
+-- What a first reading finds of its input, and how the lines of blocks may fail to be written.
+use Rattle.std.proofs.Common.{◌≡◌, ◌⊎◌, ℕ, Bool, true, false, List, Option, Result, Ok, Err, sym, subst}
+use Rattle.std.specs.Global.{Global}
+use Rattle.block_core.specs.declared.block.Block.{Block}
+use Rattle.list_core.specs.declared.device.InputEnd.{InputEnd}
+use Rattle.list_core.specs.declared.event.Event.{Event}
+use Rattle.list_core.specs.Device.{AppendsPrefix}
+use Rattle.list_core.specs.ReadItems.{AnswerOf}
+use Rattle.engine_core.specs.declared.ending.Ending.{Ending}
+use Rattle.engine_core.specs.declared.ending.Ending.TheVariants.{WriteFault, Memory}
+use Rattle.engine_core.specs.Ending.{is_write_fault}
+use Rattle.engine_core.specs.Input.{GaveThen, Input, IsRead, Reader}
+use Rattle.engine_core.proofs.InputRuns.{GivenSo}
+use Rattle.inventory_engine.specs.declared.listed_block.ListedBlock.{ListedBlock}
+use Rattle.inventory_engine.specs.ListedBlocks.{FindsOf, FindsOver}
+use Rattle.words_core.specs.declared.option_words.Options.{Options}
+use Rattle.task_engine.specs.ListedReplay.{FindsBy, FindsInput}
+
+-- what is found over a reader is found of its input
+pub finds_of : {I C F : Type 0} (reader : Reader I (Event Global) C F) (input : Input (Event Global) C F) (left : I → Option (List ℕ)) (source : I → InputEnd) (start end : I) (listed : List (ListedBlock Global)) (blocks : List (Block Global))
+    → ((items : List (ℕ × Event Global)) (answer : AnswerOf (Event Global) F) → GaveThen reader start end items answer → GivenSo (left start) (left end) (λ given. IsRead input (source end) given items answer))
+    → FindsOver reader start end listed blocks → GivenSo (left start) (left end) (λ given. FindsOf input (source end) given listed blocks)
+finds_of reader input left source start end listed blocks reads f =
+    let r = reads f.items f.answer f.gave in
+    (r.0, r.1, record { items = f.items; answer = f.answer; read_so = r.2; ends = f.ends; found = f.found })
+
+-- by options of which it is known whether they ask for a capture, and whether frames are passed over
+pub by_these : (options : Options) (is_capture skips : Bool) (z : InputEnd) (read : List ℕ) (listed : List (ListedBlock Global)) (blocks : List (Block Global)) → options.is_capture ≡ is_capture → options.skips_other ≡ skips
+    → FindsInput is_capture options.unwraps skips z read listed blocks → FindsBy options z read listed blocks
+by_these options is_capture skips z read listed blocks i k f =
+    subst (λ (b : Bool). FindsInput b options.unwraps options.skips_other z read listed blocks) (sym i) (subst (λ (b : Bool). FindsInput is_capture options.unwraps b z read listed blocks) (sym k) f)
