@@ -1,6 +1,6 @@
 -- What a task over a reader of events leaves of the input that it reads.
-use Rattle.std.proofs.Common.{Option, Some, None, Ok, Err, ◌≡◌, ℕ, Bool, true, false, List, [], inl, inr, ap, sym, ◌∙◌, refl, subst}
-use Rattle.std.specs.Prelude.{◌&&◌, option_map}
+use Rattle.std.proofs.Common.{Option, Some, None, ◌≡◌, ℕ, Bool, true, false, List, [], inl, inr, sym, ◌∙◌, refl, subst}
+use Rattle.std.specs.Prelude.{option_map}
 use Rattle.std.specs.Global.{Global}
 use Rattle.list_core.specs.declared.device.InputEnd.{InputEnd}
 use Rattle.list_core.specs.declared.device.InputEnd.TheVariants.{Failed, Open}

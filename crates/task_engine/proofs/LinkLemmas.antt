@@ -1,5 +1,5 @@
 -- What a task over the events of a capture counts of the packets that were not captured on Ethernet.
-use Rattle.std.proofs.Common.{Option, Some, None, Ok, Err, ◌≡◌, ◌≢◌, ◌⊎◌, ◌≤◌, ◌+◌, ℕ, Bool, true, false, List, [], ◌∷◌, ◌++◌, length, take, inl, inr, ap, sym, ◌∙◌, refl, subst, arith}
+use Rattle.std.proofs.Common.{Option, Some, None, Ok, Err, ◌≡◌, ◌≤◌, ◌+◌, ℕ, Bool, List, [], ◌∷◌, ◌++◌, length, take, inl, inr, ap, sym, ◌∙◌, refl, subst, arith}
 use Rattle.std.specs.Global.{Global}
 use Rattle.std.proofs.lemmas.List.{append_assoc, append-nil, length-append, length-map}
 use Rattle.std.proofs.lemmas.Grind.{flat_map-append}
@@ -15,8 +15,7 @@ use Rattle.tally_core.proofs.Tallies.{count_append}
 use Rattle.capture_core.specs.declared.capture_fault.CaptureFault.{CaptureFault}
 use Rattle.capture_core.specs.declared.packet_reader.PacketReader.{PacketReader}
 use Rattle.capture_core.specs.Captured.{captured_events, captured_packets}
-use Rattle.capture_core.specs.Laws.{events_in}
-use Rattle.capture_core.specs.Packets.{Packet, event_of, events_of, other_link, other_links_in}
+use Rattle.capture_core.specs.Packets.{Packet, event_of, other_link, other_links_in}
 use Rattle.capture_core.specs.PacketReader.{AnswersPacket, CountsPacket, PacketAnswer, PacketState, TellsPacket, at_start, events_behind, packet_state, packets_behind, packets_from}
 use Rattle.capture_core.proofs.PacketsTaken.{CountedFirst, RanPackets, TellsSome, behind_start, taken_then}
 use Rattle.frame_core.specs.declared.skip_other.SkipOther.{SkipOther}

@@ -1,14 +1,10 @@
 -- What a first reading finds of its input, and how the lines of blocks may fail to be written.
-use Rattle.std.proofs.Common.{◌≡◌, ◌⊎◌, ℕ, Bool, true, false, List, Option, Result, Ok, Err, sym, subst}
+use Rattle.std.proofs.Common.{◌≡◌, ℕ, Bool, List, Option, sym, subst}
 use Rattle.std.specs.Global.{Global}
 use Rattle.block_core.specs.declared.block.Block.{Block}
 use Rattle.list_core.specs.declared.device.InputEnd.{InputEnd}
 use Rattle.list_core.specs.declared.event.Event.{Event}
-use Rattle.list_core.specs.Device.{AppendsPrefix}
 use Rattle.list_core.specs.ReadItems.{AnswerOf}
-use Rattle.engine_core.specs.declared.ending.Ending.{Ending}
-use Rattle.engine_core.specs.declared.ending.Ending.TheVariants.{WriteFault, Memory}
-use Rattle.engine_core.specs.Ending.{is_write_fault}
 use Rattle.engine_core.specs.Input.{GaveThen, Input, IsRead, Reader}
 use Rattle.engine_core.proofs.InputRuns.{GivenSo}
 use Rattle.inventory_engine.specs.declared.listed_block.ListedBlock.{ListedBlock}

@@ -13,8 +13,8 @@ use Rattle.list_core.specs.declared.line_rules.ItemFault.{ItemFault}
 use Rattle.list_core.specs.declared.list_fault.ListCause.{ListCause}
 use Rattle.list_core.specs.Device.{GivesOctets}
 use Rattle.list_core.specs.EventLine.{event_rules}
-use Rattle.list_core.specs.ItemReader.{Answer, AnswersItem, ReaderState, item_state}
-use Rattle.list_core.specs.Items.{Listing, Numbered, items_said, listing, put_items}
+use Rattle.list_core.specs.ItemReader.{ReaderState, item_state}
+use Rattle.list_core.specs.Items.{Listing, Numbered, items_said, listing}
 use Rattle.list_core.specs.Lines.{reading}
 use Rattle.list_core.specs.ReadItems.{AnswerOf, Gave}
 use Rattle.tally_core.specs.Tally.{Tally, count_all, no_tally}
@@ -22,7 +22,7 @@ use Rattle.tally_core.proofs.Tallies.{count_append}
 use Rattle.capture_core.specs.declared.capture_fault.CaptureFault.{CaptureFault}
 use Rattle.capture_core.specs.declared.packet_reader.PacketReader.{PacketReader}
 use Rattle.capture_core.specs.Captured.{captured_events}
-use Rattle.capture_core.specs.PacketReader.{AnswersPacket, PacketAnswer, PacketState, at_start, packet_state}
+use Rattle.capture_core.specs.PacketReader.{PacketState, packet_state}
 use Rattle.frame_core.specs.declared.skip_other.SkipOther.{SkipOther}
 use Rattle.frame_core.specs.SkipOther.{Skips, beneath, pass_answer, pass_where, passed_in, passed_over, passed_where, skip_answer, type_passed}
 use Rattle.frame_core.proofs.Skipping.{leaves_what_came}
@@ -37,7 +37,7 @@ use Rattle.engine_core.specs.declared.style.Style.{Style}
 use Rattle.engine_core.specs.CaptureRun.{TellsNoMore, capture_faults, capture_input}
 use Rattle.engine_core.specs.EngineText.{Allowed, exactly}
 use Rattle.engine_core.specs.EventsText.{EventAllows, FaultText, over_in}
-use Rattle.engine_core.specs.Input.{Faults, GaveThen, IsRead, Reader}
+use Rattle.engine_core.specs.Input.{Faults, GaveThen, Reader}
 use Rattle.engine_core.specs.MadeRun.{each_made, with_each}
 use Rattle.engine_core.specs.Run.{AtLine, list_faults, list_input}
 use Rattle.engine_core.specs.RunOver.{IsDue, Run, RunsOver, Stops, WantsFor, ending_by_halt, step_fault, stopped_at}

@@ -18,7 +18,7 @@ use Rattle.capture_core.specs.PacketReader.{AnswersPacket, PacketAnswer, at_star
 use Rattle.frame_core.specs.SkipOther.{Skips, beneath, skip_answer, skip_other}
 use Rattle.frame_core.specs.declared.skip_other.SkipOther.{SkipOther}
 use Rattle.frame_core.proofs.Skipping.{leaves_what_came}
-use Rattle.unwrap_core.specs.UnwrapEvents.{UnwrapsEach, under, unwrap_answer, unwrap_numbered, unwrap_where}
+use Rattle.unwrap_core.specs.UnwrapEvents.{UnwrapsEach, under, unwrap_answer, unwrap_where}
 use Rattle.unwrap_core.specs.declared.unwrap.Unwrap.{Unwrap}
 use Rattle.unwrap_core.proofs.UnwrappedEvents.{unwraps_what_came}
 use Rattle.engine_core.specs.CaptureRun.{capture_input}

@@ -94,8 +94,10 @@ fn in_passed_list<R: Source + Drop>(
     requires open { R.ending reader ≡ InputEnd.Open }
     ensures { IfOk result (λ l. (given : List ℕ) × GivesOctets (R.left reader) (R.left l.reader) given × FindsInput false unwraps true (R.ending l.reader) given l.found.listed.items l.found.blocks.items) }
 {
-    let mut events =
-        SkipOther::new(Unwrap::new(ItemReader::new(reader, EventLines::First), unwraps));
+    let mut events = SkipOther::new(Unwrap::new(
+        ItemReader::new(reader, EventLines::First),
+        unwraps,
+    ));
     let found = find_blocks(alloc, &mut events)?;
     let (events, _) = events.into_parts();
     Ok(Listed {

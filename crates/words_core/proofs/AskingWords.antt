@@ -15,7 +15,7 @@ use Rattle.clap.proofs.OnLiterals.{clap_on_literals}
 use Rattle.clap.proofs.WalkLemmas.{find-map}
 use Rattle.block_core.specs.declared.block.Block.{Block}
 use Rattle.loss_core.specs.Periods.{Period}
-use Rattle.words_core.specs.CommandLine.{Asked, Meaning, Subcommand, blocks_in, check, first_bad_block, first_bad_period, import, is_plain, list_blocks, losing, losses, losses_shape, name_of, no_block, no_period, number_said, periods_in, plain, publish, replay, replay_of, replay_shape, replaying, rewrite, show, subcommands, takes_options, task_asked, watch, watch_shape, watching}
+use Rattle.words_core.specs.CommandLine.{Asked, Meaning, Subcommand, blocks_in, check, first_bad_block, first_bad_period, import, is_plain, list_blocks, losing, losses, losses_shape, name_of, no_block, no_period, number_said, periods_in, plain, publish, replay, replay_shape, replaying, rewrite, show, subcommands, takes_options, task_asked, watch, watch_shape, watching}
 use Rattle.words_core.proofs.KeptRows.{first_none, leaf, then_none}
 use Rattle.words_core.specs.declared.option_words.Options.{Options}
 use Rattle.words_core.specs.RequestLine.{AsksByNameWith, AsksWith, Switch, Wish, is_on, is_option, is_reading, is_set, offered, options_in, request_asked, request_line, request_of_words, switch_name, with_these}

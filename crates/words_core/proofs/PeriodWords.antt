@@ -1,5 +1,5 @@
 -- The texts of periods: what each says, and what they all say in order.
-use Rattle.std.proofs.Common.{◌≡◌, ◌∙◌, ◌==◌, ◌<◌, ◌≤◌, ◌+◌, ◌-◌, ◌^◌, ℕ, zero, suc, Bool, true, false, List, [], ◌∷◌, ◌++◌, map, length, take, drop, take-append-drop, Option, Some, None, get_or, refl, sym, ap, ap₂, subst, arith, if◌then◌else◌}
+use Rattle.std.proofs.Common.{◌≡◌, ◌∙◌, ◌==◌, ◌<◌, ◌≤◌, ◌^◌, ℕ, zero, suc, Bool, true, false, List, [], ◌∷◌, ◌++◌, map, length, take, drop, take-append-drop, Option, Some, None, get_or, refl, sym, ap, ap₂, subst, arith, if◌then◌else◌}
 use Rattle.std.specs.Prelude.{Ok, Err, MatchOption, option_map}
 use Rattle.std.specs.List.{cons_option}
 use Rattle.std.specs.Borrow.{Bor}

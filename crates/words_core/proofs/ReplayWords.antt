@@ -1,18 +1,16 @@
 -- Words that ask for a replay are taken, and the replay is theirs, with the options that stand among the texts.
-use Rattle.std.proofs.Common.{◌≡◌, ◌+◌, ◌∙◌, ◌≤◌, ℕ, Bool, true, false, true≢false, not, List, [], ◌∷◌, ◌++◌, length, map, Option, Some, None, Ok, is_some, option_map, option_and_then, unwrap_or, refl, sym, ap, subst, le-leb, append_assoc, length-append, arith}
+use Rattle.std.proofs.Common.{◌≡◌, ◌+◌, ◌∙◌, ◌≤◌, ℕ, Bool, true, false, not, List, [], ◌∷◌, ◌++◌, length, map, Option, Some, None, Ok, option_map, option_and_then, unwrap_or, refl, sym, ap, subst, le-leb, append_assoc, length-append, arith}
 use Rattle.std.specs.Prelude.{codes, filter, fold, if◌then◌else◌}
 use Rattle.std.specs.Global.{Global}
 use Rattle.std.specs.List.{list_all, list_any}
-use Rattle.std.specs.Option.{option_map_or}
 use Rattle.std.specs.Str.{bytes_eq}
 use Rattle.std.proofs.lemmas.List.{append-nil}
 use Rattle.std.proofs.lemmas.Slice.Eq.{bytes_eq-Decides}
 use Rattle.clap.specs.Lexer.{usize_max}
 use Rattle.clap.specs.Words.{Row, Rule, Shape, Text, all_of}
-use Rattle.clap.specs.Facts.{explicit_source}
 use Rattle.clap.specs.Simple.{entered, filled, with_index}
 use Rattle.clap.specs.declared.parser.matches.ValueSource.TheVariants.{CommandLine}
-use Rattle.clap.specs.Takes.{default_passes, is_given, is_valid, level_passes, settle_passes, turn_passes, walk_passes}
+use Rattle.clap.specs.Takes.{default_passes, is_valid, level_passes, settle_passes, turn_passes, walk_passes}
 use Rattle.clap.specs.Walk.{Waiting, Walk, finished, has_row, idle, nothing_held, option, positional, rows_after, used, walked, with_default}
 use Rattle.block_core.specs.declared.block.Block.{Block}
 use Rattle.words_core.specs.declared.option_words.Options.{Options}
@@ -23,7 +21,7 @@ use Rattle.words_core.proofs.AskingWords.{line, stops}
 use Rattle.words_core.proofs.NamedWords.{IsTaken, at_most, taken_behind, wished}
 use Rattle.words_core.proofs.BlockWords.{all_said}
 use Rattle.words_core.proofs.LoneFlags.{help_flag}
-use Rattle.words_core.proofs.OptionRows.{Counted, counted_more, counted_past, default_other, default_set, more_given, more_other, more_own, none_given, once_if, one_if, one_more, read_flag, recounted, row_at, set_other, set_where_given, switch_flag, times_first, times_own, use_switch}
+use Rattle.words_core.proofs.OptionRows.{Counted, counted_more, counted_past, default_other, default_set, more_other, more_own, none_given, once_if, one_if, one_more, read_flag, recounted, row_at, set_other, set_where_given, switch_flag, times_first, times_own, use_switch}
 use Rattle.words_core.proofs.OptionWalks.{Pending, TakesOptions, between, both_true, settled_to, settles, state}
 use Rattle.words_core.proofs.PlainWords.{none_yet, options_leave}
 use Rattle.words_core.proofs.Switches.{a_replay_option, both_false, fails_at, holds_of, is_any, is_common}

@@ -5,7 +5,7 @@ use Rattle.words_core.specs.declared.option_words.Options.{Options}
 use Rattle.words_core.specs.declared.option_words.Writing.{Writing}
 use Rattle.words_core.specs.declared.option_words.Writing.TheVariants.{Lines, Dated, Objects}
 use Rattle.clap.specs.Words.{Row}
-use Rattle.words_core.specs.RequestLine.{Switch, capture, changes, is_dated, is_object, is_on, is_option, is_replay_option, is_set, json, options_in, raw, replay_switches, simulation, skip_other, switch_name, switch_word, switches, time, unwrap, writing_by}
+use Rattle.words_core.specs.RequestLine.{Switch, capture, changes, is_dated, is_object, is_on, is_option, is_replay_option, is_set, json, options_in, raw, replay_switches, simulation, skip_other, switch_name, switch_word, time, unwrap, writing_by}
 
 pub both_false : (a b : Bool) → (a || b) ≡ false → (a ≡ false) × (b ≡ false)
 both_false false b e = (refl, e)

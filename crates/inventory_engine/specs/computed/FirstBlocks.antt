@@ -1,9 +1,7 @@
 -- The control blocks that are listed as they are computed: by the newest text of each key.
-use Rattle.std.specs.Prelude.{◌≡◌, ℕ, List, [], ◌∷◌, ◌++◌, filter_map, map}
-use Rattle.std.specs.declared.vec.Vec.{Vec}
+use Rattle.std.specs.Prelude.{◌≡◌, List, [], ◌∷◌, ◌++◌, filter_map, map}
 use Rattle.block_core.specs.declared.block.Block.{Block}
 use Rattle.block_core.specs.BlockText.{block_in}
-use Rattle.inventory_engine.specs.declared.listed_block.ListedBlock.{ListedBlock}
 use Rattle.inventory_engine.specs.declared.listing.FoundBlocks.{FoundBlocks}
 use Rattle.inventory_engine.specs.ListedBlocks.{first_after, listed_of}
 use Rattle.inventory_engine.specs.Sightings.{Sighting, key_of}

@@ -135,7 +135,7 @@ of_events {A} {C} {F} allows each = record {
       let it = get_or (e ∷ es) k e in
       let one = get_or texts k w in
       each (take k (e ∷ es)) it (one.text, one.is_finding)
-          (are.each k it one (slice_get-get_or (e ∷ es) k e (omega (arith, h, are.one_each))) (slice_get-get_or texts k w h))
+      (are.each k it one (slice_get-get_or (e ∷ es) k e (omega (arith, h, are.one_each))) (slice_get-get_or texts k w h))
 
 -- ---- commands
 
@@ -217,8 +217,8 @@ written_in (Err e) = []
 pub watch_is_lines : {A C F : Type 0} → WatchIsLines A C F
 watch_is_lines period id texts are = of_events (exactly_each texts)
     (λ before e written is.
-        let w = are Text before e in
-        subst (λ (l : List ℕ × Bool). IsLines l.0) is (subst IsLines (sym (ap written_in w.lines)) (whole _ (watched_ends e.0 e.1.moment id e.1.kind w.answers))))
+    let w = are Text before e in
+    subst (λ (l : List ℕ × Bool). IsLines l.0) is (subst IsLines (sym (ap written_in w.lines)) (whole _ (watched_ends e.0 e.1.moment id e.1.kind w.answers))))
 
 sighting_ends : (n : ℕ) (word text : List ℕ) → AreLines (sighting_line n word text)
 sighting_ends n word text = at_feed (decimal n ++ word ++ text)
@@ -237,13 +237,13 @@ lines_of_sightings n moment earlier [] (l ∷ lines) are = absurd (omega (arith,
 lines_of_sightings n moment earlier (s ∷ seen) (l ∷ lines) are =
     let first = are.each 0 s l refl refl in
     join l (concat lines) (subst AreLines (sym first.is_line) (line_after_ends n moment s first.newest))
-        (lines_of_sightings n moment (earlier ++ s ∷ []) seen lines (record {
-          sizes = omega (arith, are.sizes);
-          each = λ i t m a b. subst (λ (l : List Sighting). blocks_text.IsLineAfter (blocks_text.telling Text n moment) l t m) (sym (append_assoc earlier (s ∷ []) (take i seen))) (are.each (suc i) t m a b);
-        }))
+    (lines_of_sightings n moment (earlier ++ s ∷ []) seen lines (record {
+      sizes = omega (arith, are.sizes);
+      each = λ i t m a b. subst (λ (l : List Sighting). blocks_text.IsLineAfter (blocks_text.telling Text n moment) l t m) (sym (append_assoc earlier (s ∷ []) (take i seen))) (are.each (suc i) t m a b);
+    }))
 
 pub blocks_is_lines : {A C F : Type 0} → BlocksIsLines A C F
 blocks_is_lines texts are = of_events (exactly_each texts)
     (λ before e written is.
-        let w = are Text before e in
-        subst (λ (l : List ℕ × Bool). IsLines l.0) is (subst IsLines (sym (ap written_in w.text)) (whole _ (lines_of_sightings e.0 e.1.moment _ _ w.lines w.are_lines))))
+    let w = are Text before e in
+    subst (λ (l : List ℕ × Bool). IsLines l.0) is (subst IsLines (sym (ap written_in w.text)) (whole _ (lines_of_sightings e.0 e.1.moment _ _ w.lines w.are_lines))))

@@ -1,4 +1,4 @@
-use Rattle.std.proofs.Common.{◌≡◌, ◌+◌, ◌≤◌, ◌∙◌, List, [], ◌∷◌, ◌++◌, take, ap, sym, subst, arith}
+use Rattle.std.proofs.Common.{◌≡◌, ◌+◌, ◌∙◌, List, [], ◌∷◌, ◌++◌, take, ap, sym, subst, arith}
 use Rattle.std.proofs.lemmas.List.{take_more}
 use Rattle.inventory_engine.specs.declared.listed_block.ListedBlock.{ListedBlock}
 use Rattle.inventory_engine.proofs.SubscribedLines.{WroteOf, wrote_one, wrote_past}

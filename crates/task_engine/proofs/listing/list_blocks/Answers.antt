@@ -1,4 +1,4 @@
-use Rattle.std.proofs.Common.{true, false, Ok}
+use Rattle.std.proofs.Common.{true, false}
 use Rattle.std.proofs.lemmas.Result.{IfOk-weaker}
 use Rattle.task_engine.proofs.ListedLemmas.{by_these}
 use Rattle.task_engine.proofs.listing.list_blocks.Goals as goal

@@ -1,4 +1,4 @@
-use Rattle.std.proofs.Common.{◌≡◌, ◌⊎◌, [], refl, sym, inl, inr}
+use Rattle.std.proofs.Common.{[], refl, sym, inl, inr}
 use Rattle.engine_core.proofs.InputRuns.{none_given}
 use Rattle.task_engine.proofs.listing.replay_listed.Goals as goal
 
@@ -14,7 +14,11 @@ pub returns-in-Ok-clause-links : goal.returns-in-Ok-clause-links
 returns-in-Ok-clause-links g c = inl c.perform.ensures.links
 
 pub returns-clause-links : goal.returns-clause-links
-returns-clause-links g c = inr (refl, none_given _, elim c.in-Err.ensures.written [
-  | inl failed ↦ inl failed.0
-  | inr refused ↦ inr refused.0
-])
+returns-clause-links g c = inr (
+  refl,
+  none_given _,
+  elim c.in-Err.ensures.written [
+    | inl failed ↦ inl failed.0
+    | inr refused ↦ inr refused.0
+  ],
+)

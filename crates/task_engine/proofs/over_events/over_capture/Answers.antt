@@ -1,4 +1,4 @@
-use Rattle.std.proofs.Common.{◌≡◌, ap, false, refl, sym, ◌∙◌}
+use Rattle.std.proofs.Common.{ap, false, refl, sym, ◌∙◌}
 use Rattle.capture_core.specs.PacketReader.{packet_state}
 use Rattle.unwrap_core.specs.UnwrapEvents.{UnwrapsEach, under}
 use Rattle.engine_core.specs.CaptureRun.{capture_faults, capture_input}

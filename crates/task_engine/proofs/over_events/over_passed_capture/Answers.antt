@@ -1,4 +1,4 @@
-use Rattle.std.proofs.Common.{◌≡◌, ap, true, refl, sym, ◌∙◌}
+use Rattle.std.proofs.Common.{ap, true, refl, sym, ◌∙◌}
 use Rattle.capture_core.specs.PacketReader.{packet_state}
 use Rattle.frame_core.specs.SkipOther.{Skips, beneath, passed_over}
 use Rattle.unwrap_core.specs.UnwrapEvents.{UnwrapsEach, under}

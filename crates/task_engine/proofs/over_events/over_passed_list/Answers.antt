@@ -1,4 +1,4 @@
-use Rattle.std.proofs.Common.{◌≡◌, ap, true, refl, sym, ◌∙◌}
+use Rattle.std.proofs.Common.{ap, true, refl, sym, ◌∙◌}
 use Rattle.list_core.specs.EventLine.{event_rules}
 use Rattle.list_core.specs.ItemReader.{item_state}
 use Rattle.list_core.specs.declared.event_lines.EventLines.TheVariants.{First}
