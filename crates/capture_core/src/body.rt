@@ -92,7 +92,8 @@ pub(crate) fn read_event<R: Source, A: Allocator + Copy>(
     })
 }
 
-// Reads the captured octets of a packet, and answers what its block says.
+// Reads the captured octets of a packet, and answers what its block says. Inlined, so that an event is not moved for it.
+#[inline(always)]
 fn read_captured<R: Source, A: Allocator + Copy>(
     reader: &mut R,
     alloc: A,

@@ -112,6 +112,7 @@ fn ticks_in(order: OctetOrder, head: &[u8]) -> u64
 }
 
 // The moment of a packet.
+#[inline(always)]
 fn packet_moment(
     kind: PacketBlock,
     section: Section,
@@ -128,7 +129,8 @@ fn packet_moment(
     }
 }
 
-// Judges what stands before the captured octets, in a body of so many octets.
+// Judges what stands before the captured octets, in a body of so many octets. Inlined, since each packet is judged.
+#[inline(always)]
 pub(crate) fn judge_packet(
     kind: PacketBlock,
     section: Section,

@@ -246,7 +246,9 @@ impl<R: Source, A: Allocator + Copy> PacketReader<R, A> {
         }
     }
 
-    /// Settles that a packet was captured at this moment on a link of this type, which is not Ethernet: only time has passed.
+    /// Settles that a packet was captured at this moment on a link of this type, which is not Ethernet: only time has passed. Never inlined, so
+    /// that packets of Ethernet take no step for it.
+    #[inline(never)]
     fn settle_other(&mut self, moment: u64, link_type: u16) -> Step<A>
         requires room { 0 < self.old.most }
         ensures reader { self.new.reader ≡ self.old.reader }

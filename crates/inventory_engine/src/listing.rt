@@ -13,7 +13,7 @@ ghost use Rattle.inventory_engine.specs.computed.ShownFields.{configuration_show
 use crate::block_text::{ShownBlock, block_shown};
 use crate::inventory::{Inventory, Sought};
 use crate::listed_block::ListedBlock;
-use crate::sighting::{put_block, put_streams};
+use crate::sighting::put_event;
 use block_core::Block;
 use frame_core::{ApduView, view_frame};
 use known_core::Runs;
@@ -75,22 +75,29 @@ fn push_first<A: Allocator + Copy>(
     }
 }
 
-// Keeps what a frame shows of its control block, and lists it where it is the first with its key.
-fn note_block<A: Allocator + Copy>(
+// Lists the control block that an event shows, where none is known by its key.
+fn push_shown<A: Allocator + Copy>(
     alloc: A,
-    known: &mut Inventory<A>,
+    known: &Inventory<A>,
     found: &mut FoundBlocks<A>,
-    line: &mut Vec<u8, A>,
-    app_id: u16,
-    goose: &GooseView<'_>,
+    kind: &EventKind<A>,
 ) -> Result<(), AllocError>
-    ensures { OnOk result (NotesSightings (block_sighting (configuration_of app_id (pdu_of {A = Unit {0}} goose.now)) ∷ []) known.old known.new found.old found.new) }
+    ensures { OnOk result ((earlier : List Sighting) → Keeps known.now earlier → ListsMore (firsts_of earlier (sightings_of kind.now)) found.old found.new) }
 {
-    push_first(alloc, known, found, app_id, goose)?;
-    put_block(alloc, known, line, HEADING, app_id, goose)
+    let EventKind::Frame(octets) = kind else {
+        return Ok(());
+    };
+    match view_frame(octets.as_slice()) {
+        Err(_) => Ok(()),
+        Ok(view) => match &view.apdu {
+            ApduView::Goose(goose) => push_first(alloc, known, found, view.app_id, goose),
+            ApduView::Sampled(_) => Ok(()),
+        },
+    }
 }
 
-// Keeps what an event shows, and lists the control block that it shows for the first time.
+// Keeps what an event shows, and lists the control block that it shows for the first time. What `blocks` writes of the event is put
+// together by its own call, and left.
 fn note_event<A: Allocator + Copy>(
     alloc: A,
     known: &mut Inventory<A>,
@@ -100,17 +107,9 @@ fn note_event<A: Allocator + Copy>(
 ) -> Result<(), AllocError>
     ensures { OnOk result (NotesSightings (sightings_of kind.now) known.old known.new found.old found.new) }
 {
-    let EventKind::Frame(octets) = kind else {
-        return Ok(());
-    };
+    push_shown(alloc, known, found, kind)?;
     line.clear();
-    match view_frame(octets.as_slice()) {
-        Err(_) => Ok(()),
-        Ok(view) => match &view.apdu {
-            ApduView::Goose(goose) => note_block(alloc, known, found, line, view.app_id, goose),
-            ApduView::Sampled(sampled) => put_streams(alloc, known, line, HEADING, sampled),
-        },
-    }
+    put_event(alloc, known, line, HEADING, kind)
 }
 
 /// The control blocks that `blocks` lists of the events that a reader still gives: each as its first frame shows it, in the order

@@ -285,8 +285,8 @@ fn put_other_block<A: Allocator + Copy>(
     }
 }
 
-/// Appends what is written of the control block of a frame.
-pub fn put_block<A: Allocator + Copy>(
+// Appends what is written of the control block of a frame.
+fn put_block<A: Allocator + Copy>(
     alloc: A,
     known: &mut Inventory<A>,
     line: &mut Vec<u8, A>,
@@ -362,8 +362,8 @@ fn put_stream<A: Allocator + Copy>(
     }
 }
 
-/// Appends what is written of the streams of a frame's ASDUs.
-pub fn put_streams<A: Allocator + Copy>(
+// Appends what is written of the streams of a frame's ASDUs.
+fn put_streams<A: Allocator + Copy>(
     alloc: A,
     known: &mut Inventory<A>,
     line: &mut Vec<u8, A>,
