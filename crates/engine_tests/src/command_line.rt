@@ -588,7 +588,7 @@ const NO_REQUESTS: [(&[&str], ErrorKind); 19] = [
         ErrorKind::TooManyValues,
     ),
     (
-        &["goose", "replay", "--capture"],
+        &["goose", "watch", "--capture", "--id=S"],
         ErrorKind::MissingRequiredArgument,
     ),
     (
