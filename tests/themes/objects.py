@@ -197,18 +197,28 @@ class Told:
         of_lost = dict(told)
         told.update(dict.fromkeys(("first", "next", "same", "late", "out-of-range"), told["watch"][:2]), skipped=told["watch"])
         seen, why = set(), []
+        for name, command, it in self.objects(program):
+            kind = it["kind"]
+            seen.add(kind)
+            names = [it for it in it if it not in ("line", "packet", "microseconds", "time", "kind")]
+            is_lost = command == "losses" and "appid" in it
+            wanted = self.whose(it, told["losses"]) + of_lost[kind] if is_lost else told.get(kind, ["error"])
+            why += [f"{name}: {kind} has {names}"] if names != wanted else []
+            for inside, row in self.inside(it):
+                why += [f"{name}: {row} has {list(inside)}"] if list(inside) != rows[row] else []
+        return why[:3] or [f"no object is {it}" for it in sorted(set(told) - seen - {"watch", "blocks", "losses"})]
+
+    def objects(self, program):
+        """The objects of each input by each command, and of a file whose blocks are all replayed."""
         for name, octets, options in (*inputs(), ("losses", losses.of(*losses.recorded()), ())):
             for command in ASKED:
-                for it in map(json.loads, run(program, asking(command, JSON, *options), octets)[0].splitlines()):
-                    kind = it["kind"]
-                    seen.add(kind)
-                    names = [it for it in it if it not in ("line", "packet", "microseconds", "time", "kind")]
-                    is_lost = command == "losses" and "appid" in it
-                    wanted = self.whose(it, told["losses"]) + of_lost[kind] if is_lost else told.get(kind, ["error"])
-                    why += [f"{name}: {kind} has {names}"] if names != wanted else []
-                    for inside, row in self.inside(it):
-                        why += [f"{name}: {row} has {list(inside)}"] if list(inside) != rows[row] else []
-        return why[:3] or [f"no object is {it}" for it in sorted(set(told) - seen - {"watch", "blocks", "losses"})]
+                for line in run(program, asking(command, JSON, *options), octets)[0].splitlines():
+                    yield name, command, json.loads(line)
+        with tempfile.NamedTemporaryFile() as file:
+            file.write(listed(WORKED))
+            file.flush()
+            for line in run(program, ["replay", "-r", file.name, JSON], b"")[0].splitlines():
+                yield "a file", "replay", json.loads(line)
 
     @staticmethod
     def whose(it, names):
