@@ -43,7 +43,7 @@ fn is_cut_behind<R: Source, A: Allocator + Copy>(
             return false;
         }
     }
-    reader.next(alloc, &mut None).is_err() && reader.number() == count + 1
+    reader.next(alloc, &mut None).is_err() && reader.number() == count.saturating_add(1)
 }
 
 // Whether that is kept.
