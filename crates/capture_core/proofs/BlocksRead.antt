@@ -10,8 +10,9 @@ use Rattle.capture_core.specs.Numbers.{number_at}
 use Rattle.capture_core.specs.Capture.{cut, fault_in}
 use Rattle.capture_core.specs.Blocks.{Block, Settled, begins, describes, passes, block_in, block_with, body_said, captures, first_block, is_bad_length, next_block, section_header, section_in, section_order, section_said}
 use Rattle.capture_core.specs.computed.OneRead.{IsBlockTold, IsNextBlock, Told, order_of_magic, version_rest}
-use Rattle.capture_core.specs.declared.packet_error.PacketError.{PacketError}
-use Rattle.capture_core.specs.declared.packet_error.PacketError.TheVariants as error
+use Rattle.list_core.specs.declared.read_error.ReadError.{ReadError}
+use Rattle.capture_core.specs.declared.capture_fault.CaptureFault.{CaptureFault}
+use Rattle.list_core.specs.declared.read_error.ReadError.TheVariants as error
 use Rattle.capture_core.specs.computed.Sections.{IsCaptured, IsSaidAs, block_rest}
 use Rattle.capture_core.specs.declared.body.Said.{Said}
 use Rattle.capture_core.specs.Packets.{Packet}
@@ -188,7 +189,7 @@ next_cut z n s [] h few = absurd (omega (arith, h))
 next_cut z n s (x ∷ xs) h few = next_short z n s x xs few
 
 -- a block that is refused is told so
-pub next_told : (A : Type 0) (e : PacketError) (t : Told Block) → IsBlockTold {A = A} t (Err e) → IsNextBlock {A = A} t (Err e)
+pub next_told : (A : Type 0) (e : ReadError CaptureFault) (t : Told Block) → IsBlockTold {A = A} t (Err e) → IsNextBlock {A = A} t (Err e)
 next_told A (error.Fault f) t h = h
 next_told A (error.Memory m) t h = h
 

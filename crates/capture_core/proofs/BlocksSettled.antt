@@ -16,7 +16,7 @@ use Rattle.capture_core.specs.declared.body.Said.TheVariants as said
 use Rattle.capture_core.specs.declared.capture_fault.CaptureCause.{CaptureCause}
 use Rattle.capture_core.specs.declared.form.OctetOrder.{OctetOrder}
 use Rattle.capture_core.specs.declared.interface.Interface.{Interface}
-use Rattle.capture_core.specs.declared.packet_error.PacketError.TheVariants as error
+use Rattle.list_core.specs.declared.read_error.ReadError.TheVariants as error
 use Rattle.capture_core.specs.declared.packet_reader.PacketReader.{PacketReader}
 use Rattle.capture_core.specs.declared.packet_reader.Progress.TheVariants as progress
 use Rattle.capture_core.specs.declared.packet_reader.Step.{Step}

@@ -14,8 +14,9 @@ use Rattle.capture_core.specs.Packets.{Packet, kind_of, other_link}
 use Rattle.capture_core.specs.Interfaces.{moment_after, padded}
 use Rattle.capture_core.specs.Blocks.{Settled, captured_behind, captured_length, captures, head_at, head_on, head_size, interface_number, packet_head, packet_in, packet_moment, ticks_in, within_snapshot}
 use Rattle.capture_core.specs.computed.OneRead.{IsNextEvent, IsRecordEvent, Told, next_record, record_front}
-use Rattle.capture_core.specs.declared.packet_error.PacketError.{PacketError}
-use Rattle.capture_core.specs.declared.packet_error.PacketError.TheVariants as error
+use Rattle.list_core.specs.declared.read_error.ReadError.{ReadError}
+use Rattle.capture_core.specs.declared.capture_fault.CaptureFault.{CaptureFault}
+use Rattle.list_core.specs.declared.read_error.ReadError.TheVariants as error
 use Rattle.capture_core.specs.declared.form.CaptureForm.{CaptureForm}
 use Rattle.capture_core.specs.declared.interface.Interface.{Interface}
 use Rattle.capture_core.specs.declared.packet_block.PacketBlock.{PacketBlock}
@@ -156,7 +157,7 @@ record_end form z n [] h few = absurd (omega (arith, h))
 record_end form z n (x ∷ xs) h few = record_short form z n x xs few
 
 -- a record that is refused is told so
-pub record_told : (A : Type 0) (e : PacketError) (t : Told Packet) → IsRecordEvent {A = A} t (Err e) → IsNextEvent {A = A} t (Err e)
+pub record_told : (A : Type 0) (e : ReadError CaptureFault) (t : Told Packet) → IsRecordEvent {A = A} t (Err e) → IsNextEvent {A = A} t (Err e)
 record_told A (error.Fault f) t h = h
 record_told A (error.Memory m) t h = h
 

@@ -1,5 +1,5 @@
 -- What the answers of a reader of packets say of its capture.
-use Rattle.std.specs.Prelude.{◌≡◌, ◌⊎◌, ℕ, ◌+◌, List, [], ◌∷◌, ◌++◌, length, Option, Some, None, Result, Ok, Err}
+use Rattle.std.specs.Prelude.{◌≡◌, ◌⊎◌, ℕ, ◌+◌, List, [], ◌∷◌, ◌++◌, length, Option, Some, None, Ok, Err}
 use Rattle.std.specs.Io.KnownBytes.{Consumes}
 use Rattle.list_core.specs.declared.device.InputEnd.{InputEnd}
 use Rattle.list_core.specs.declared.device.InputEnd.TheVariants.{Open}
@@ -16,8 +16,7 @@ use Rattle.capture_core.specs.Asked.{OnlyWhile}
 use Rattle.capture_core.specs.Captured.{captured_packets}
 use Rattle.capture_core.specs.declared.form.CaptureForm.{CaptureForm}
 use Rattle.capture_core.specs.declared.capture_fault.CaptureFault.{CaptureFault}
-use Rattle.capture_core.specs.declared.packet_error.PacketError.{PacketError}
-use Rattle.capture_core.specs.declared.packet_error.PacketError.TheVariants as error
+use Rattle.list_core.specs.ReadItems.{AnswerOf}
 use Rattle.capture_core.specs.declared.packet_reader.PacketReader.{PacketReader}
 use Rattle.capture_core.specs.declared.packet_reader.Progress.{Progress}
 use Rattle.capture_core.specs.declared.packet_reader.Progress.TheVariants as progress
@@ -97,14 +96,7 @@ packet_number r = number_by r.progress r.answered
 
 -- an answer of a reader of packets: an event with the number of its packet, the end, a fault, or want of memory
 abbrev pub PacketAnswer : Type 0 → Type 0
-PacketAnswer A = Result (Option (ℕ × Event A)) (Option CaptureFault)
-
--- an answer, its event with the number of its packet
-abbrev pub answer_of : {A : Type 0} → ℕ → Result (Option (Event A)) PacketError → PacketAnswer A
-answer_of n (Ok None) = Ok None
-answer_of n (Ok (Some e)) = Ok (Some (n, e))
-answer_of n (Err (error.Fault f)) = Err (Some f)
-answer_of n (Err (error.Memory m)) = Err None
+PacketAnswer A = AnswerOf (Event A) CaptureFault
 
 -- what an answer says of the capture before it and the capture after it: an event is taken off, the end and a fault stay, and after want of memory nothing more is told
 abbrev pub TellsPacket : {A : Type 0} → PacketAnswer A → Numbered (Event A) → Numbered (Event A) → Type 0

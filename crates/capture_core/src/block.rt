@@ -11,8 +11,7 @@ use crate::filling::{Filled, Short, Unread, fill, pass, take};
 use crate::form::OctetOrder;
 use crate::numbers::{long_at, short_at};
 use crate::packet_block::Section;
-use crate::packet_error::PacketError;
-use list_core::{Event, Source};
+use list_core::{Event, ReadError, Source};
 use std::alloc::Allocator;
 
 /// The type of a section header block, the same in both orders (draft-ietf-opsawg-pcapng, 4.1).
@@ -113,7 +112,7 @@ fn read_behind<R: Source, A: Allocator + Copy>(
     section: Section,
     number: u64,
     head: &[u8],
-) -> Result<Said<A>, PacketError>
+) -> Result<Said<A>, ReadError<CaptureFault>>
     requires { length head.now ≡ 8 }
     ensures { (told : Told Block) × IsBlockTold told result
         × ReadsToKeep IsFrameBlock (λ z octets. first_block z number (settled section.entry) octets) head.now (R.left reader.old) (R.ending reader.old) told (R.left reader.new) (R.ending reader.new) }
@@ -122,18 +121,18 @@ fn read_behind<R: Source, A: Allocator + Copy>(
     if kind == SECTION_HEADER {
         return match read_section(reader, head, number, CaptureCause::BlockForm) {
             Ok(order) => Ok(Said::Begins(order)),
-            Err(fault) => Err(PacketError::Fault(fault)),
+            Err(fault) => Err(ReadError::Fault(fault)),
         };
     }
     let total = long_at(section.order, head, 4);
     if is_bad_length(LEAST, total) {
-        return Err(PacketError::Fault(CaptureCause::BlockLength.in_record(number)));
+        return Err(ReadError::Fault(CaptureCause::BlockLength.in_record(number)));
     }
     match read_rest(reader, alloc, spare, section, kind, total) {
         Ok(Ok(said)) => Ok(said),
-        Ok(Err(cause)) => Err(PacketError::Fault(cause.in_record(number))),
-        Err(Unread::Short) => Err(PacketError::Fault(cut_in(number, reader.ending()))),
-        Err(Unread::Memory(error)) => Err(PacketError::Memory(error)),
+        Ok(Err(cause)) => Err(ReadError::Fault(cause.in_record(number))),
+        Err(Unread::Short) => Err(ReadError::Fault(cut_in(number, reader.ending()))),
+        Err(Unread::Memory(error)) => Err(ReadError::Memory(error)),
     }
 }
 
@@ -144,7 +143,7 @@ pub(crate) fn read_block<R: Source, A: Allocator + Copy>(
     spare: &mut Option<Event<A>>,
     section: Section,
     number: u64,
-) -> Result<Option<Said<A>>, PacketError>
+) -> Result<Option<Said<A>>, ReadError<CaptureFault>>
     ensures { (told : Told Block) × IsNextBlock told result
         × ReadsToKeep IsFrameBlock (λ z octets. next_block z number (settled section.entry) octets) [] (R.left reader.old) (R.ending reader.old) told (R.left reader.new) (R.ending reader.new) }
 {
@@ -152,9 +151,9 @@ pub(crate) fn read_block<R: Source, A: Allocator + Copy>(
     match fill(reader, &mut head) {
         Filled::Short(0) => match ended_in(number, reader.ending()) {
             None => Ok(None),
-            Some(fault) => Err(PacketError::Fault(fault)),
+            Some(fault) => Err(ReadError::Fault(fault)),
         },
-        Filled::Short(_) => Err(PacketError::Fault(cut_in(number, reader.ending()))),
+        Filled::Short(_) => Err(ReadError::Fault(cut_in(number, reader.ending()))),
         Filled::Whole => match read_behind(reader, alloc, spare, section, number, &head) {
             Ok(said) => Ok(Some(said)),
             Err(error) => Err(error),

@@ -9,10 +9,9 @@ use crate::filling::{Filled, fill};
 use crate::form::{CaptureForm, OctetOrder};
 use crate::interface::Interface;
 use crate::packet_block::Section;
-use crate::packet_error::PacketError;
 use crate::packet_record::read_packet_record;
 use crate::start::{Start, read_start};
-use list_core::{Event, EventKind, Source};
+use list_core::{Event, EventKind, ReadError, Source};
 use std::alloc::{AllocError, Allocator};
 use tally_core::KindTally;
 
@@ -43,7 +42,7 @@ pub(crate) enum Step<A: Allocator> {
     /// What was read has no packet.
     Passed,
     /// The answer to the caller.
-    Answered(Result<Option<Event<A>>, PacketError>),
+    Answered(Result<Option<Event<A>>, ReadError<CaptureFault>>),
 }
 
 /// Reads a capture packet by packet, in the classic form of libpcap or in pcapng. It holds the interfaces of one section, and counts the
@@ -61,7 +60,8 @@ pub struct PacketReader<R, A: Allocator> {
 }
 
 impl<R: Source, A: Allocator + Copy> PacketReader<R, A> {
-    ghost use Rattle.capture_core.specs.PacketReader.{AnswersPacket, answer_of, at_start, packet_number, packet_number_told, packet_state, things_left};
+    ghost use Rattle.list_core.specs.ReadItems.{told_as};
+    ghost use Rattle.capture_core.specs.PacketReader.{AnswersPacket, at_start, packet_number, packet_number_told, packet_state, things_left};
     ghost use Rattle.capture_core.specs.computed.Steps.{IsReading, Settles, Steps};
 
     /// A reader of the capture that the source gives. It takes no memory yet.
@@ -163,7 +163,7 @@ impl<R: Source, A: Allocator + Copy> PacketReader<R, A> {
             }
             Err(fault) => {
                 self.progress = Progress::Over(Some(fault));
-                Step::Answered(Err(PacketError::Fault(fault)))
+                Step::Answered(Err(ReadError::Fault(fault)))
             }
         }
     }
@@ -184,13 +184,13 @@ impl<R: Source, A: Allocator + Copy> PacketReader<R, A> {
                 self.progress = Progress::Over(None);
                 Step::Answered(Ok(None))
             }
-            Err(PacketError::Fault(fault)) => {
+            Err(ReadError::Fault(fault)) => {
                 self.progress = Progress::Over(Some(fault));
-                Step::Answered(Err(PacketError::Fault(fault)))
+                Step::Answered(Err(ReadError::Fault(fault)))
             }
-            Err(PacketError::Memory(error)) => {
+            Err(ReadError::Memory(error)) => {
                 self.progress = Progress::GivenUp;
-                Step::Answered(Err(PacketError::Memory(error)))
+                Step::Answered(Err(ReadError::Memory(error)))
             }
         }
     }
@@ -200,9 +200,9 @@ impl<R: Source, A: Allocator + Copy> PacketReader<R, A> {
         &mut self,
         alloc: A,
         spare: &mut Option<Event<A>>,
-    ) -> Result<Option<Event<A>>, PacketError>
-        ensures packet { AnswersPacket (packet_state R.left R.ending self.old) (answer_of (packet_number self.new) result) (packet_state R.left R.ending self.new) }
-        ensures number { packet_number self.new ≡ packet_number_told (answer_of (packet_number self.new) result) (packet_number self.old) }
+    ) -> Result<Option<Event<A>>, ReadError<CaptureFault>>
+        ensures packet { AnswersPacket (packet_state R.left R.ending self.old) (told_as (packet_number self.new) result) (packet_state R.left R.ending self.new) }
+        ensures number { packet_number self.new ≡ packet_number_told (told_as (packet_number self.new) result) (packet_number self.old) }
         ensures fewer { IfOk result (λ o. IfSome o (λ _. things_left (packet_state R.left R.ending self.new) < things_left (packet_state R.left R.ending self.old))) }
     {
         'steps: loop {
@@ -235,13 +235,13 @@ impl<R: Source, A: Allocator + Copy> PacketReader<R, A> {
                 self.progress = Progress::Over(None);
                 Step::Answered(Ok(None))
             }
-            Err(PacketError::Fault(fault)) => {
+            Err(ReadError::Fault(fault)) => {
                 self.progress = Progress::Over(Some(fault));
-                Step::Answered(Err(PacketError::Fault(fault)))
+                Step::Answered(Err(ReadError::Fault(fault)))
             }
-            Err(PacketError::Memory(error)) => {
+            Err(ReadError::Memory(error)) => {
                 self.progress = Progress::GivenUp;
-                Step::Answered(Err(PacketError::Memory(error)))
+                Step::Answered(Err(ReadError::Memory(error)))
             }
         }
     }
@@ -285,7 +285,7 @@ impl<R: Source, A: Allocator + Copy> PacketReader<R, A> {
                 Ok(()) => {}
                 Err(error) => {
                     self.progress = Progress::GivenUp;
-                    return Step::Answered(Err(PacketError::Memory(error.into())));
+                    return Step::Answered(Err(ReadError::Memory(error.into())));
                 }
             },
             Said::Passes => {}
@@ -309,7 +309,7 @@ impl<R: Source, A: Allocator + Copy> PacketReader<R, A> {
         self.progress = Progress::Over(fault);
         match fault {
             None => Step::Answered(Ok(None)),
-            Some(fault) => Step::Answered(Err(PacketError::Fault(fault))),
+            Some(fault) => Step::Answered(Err(ReadError::Fault(fault))),
         }
     }
 
@@ -320,8 +320,8 @@ impl<R: Source, A: Allocator + Copy> PacketReader<R, A> {
         match self.progress {
             Progress::Nothing => self.begin(),
             Progress::Over(None) => Step::Answered(Ok(None)),
-            Progress::Over(Some(fault)) => Step::Answered(Err(PacketError::Fault(fault))),
-            Progress::GivenUp => Step::Answered(Err(PacketError::Memory(AllocError))),
+            Progress::Over(Some(fault)) => Step::Answered(Err(ReadError::Fault(fault))),
+            Progress::GivenUp => Step::Answered(Err(ReadError::Memory(AllocError))),
             Progress::Records(form) => {
                 if self.most == 0 {
                     self.read_last()

@@ -4,14 +4,13 @@ ghost use Rattle.capture_core.specs.Packets.{Packet};
 ghost use Rattle.capture_core.specs.computed.OneRead.{IsFramePacket, IsNextEvent, IsRecordEvent, ReadsToKeep, Told, next_record, record_front};
 
 use crate::body::read_event;
-use crate::capture_fault::{CaptureCause, cut_in, ended_in};
+use crate::capture_fault::{CaptureCause, CaptureFault, cut_in, ended_in};
 use crate::filling::{Filled, Unread, fill};
 use crate::form::CaptureForm;
 use crate::numbers::long_at;
 use crate::packet_block::LONGEST_PACKET;
-use crate::packet_error::PacketError;
 use crate::record::moment_in;
-use list_core::{Event, Source};
+use list_core::{Event, ReadError, Source};
 use std::alloc::Allocator;
 
 // Reads what follows the head of a record.
@@ -22,19 +21,19 @@ fn read_captured<R: Source, A: Allocator + Copy>(
     form: CaptureForm,
     number: u64,
     head: &[u8],
-) -> Result<Event<A>, PacketError>
+) -> Result<Event<A>, ReadError<CaptureFault>>
     requires { length head.now ≡ 16 }
     ensures { (told : Told Packet) × IsRecordEvent told result
         × ReadsToKeep IsFramePacket (λ z octets. record_front form z number octets) head.now (R.left reader.old) (R.ending reader.old) told (R.left reader.new) (R.ending reader.new) }
 {
     let size = long_at(form.order, head, 8) as usize;
     if size > LONGEST_PACKET {
-        return Err(PacketError::Fault(CaptureCause::RecordLength.in_record(number)));
+        return Err(ReadError::Fault(CaptureCause::RecordLength.in_record(number)));
     }
     match read_event(reader, alloc, spare, moment_in(form, head), size) {
         Ok(event) => Ok(event),
-        Err(Unread::Short) => Err(PacketError::Fault(cut_in(number, reader.ending()))),
-        Err(Unread::Memory(error)) => Err(PacketError::Memory(error)),
+        Err(Unread::Short) => Err(ReadError::Fault(cut_in(number, reader.ending()))),
+        Err(Unread::Memory(error)) => Err(ReadError::Memory(error)),
     }
 }
 
@@ -45,7 +44,7 @@ pub(crate) fn read_packet_record<R: Source, A: Allocator + Copy>(
     spare: &mut Option<Event<A>>,
     form: CaptureForm,
     number: u64,
-) -> Result<Option<Event<A>>, PacketError>
+) -> Result<Option<Event<A>>, ReadError<CaptureFault>>
     ensures { (told : Told Packet) × IsNextEvent told result
         × ReadsToKeep IsFramePacket (λ z octets. next_record form z number octets) [] (R.left reader.old) (R.ending reader.old) told (R.left reader.new) (R.ending reader.new) }
 {
@@ -53,9 +52,9 @@ pub(crate) fn read_packet_record<R: Source, A: Allocator + Copy>(
     match fill(reader, &mut head) {
         Filled::Short(0) => match ended_in(number, reader.ending()) {
             None => Ok(None),
-            Some(fault) => Err(PacketError::Fault(fault)),
+            Some(fault) => Err(ReadError::Fault(fault)),
         },
-        Filled::Short(_) => Err(PacketError::Fault(cut_in(number, reader.ending()))),
+        Filled::Short(_) => Err(ReadError::Fault(cut_in(number, reader.ending()))),
         Filled::Whole => match read_captured(reader, alloc, spare, form, number, &head) {
             Ok(event) => Ok(Some(event)),
             Err(error) => Err(error),

@@ -4,7 +4,6 @@ ghost use Rattle.capture_core.specs.PacketReader.{AnswersPacket, packet_number, 
 ghost use Rattle.capture_core.specs.Packets.{is_failed_read};
 
 use crate::capture_fault::{CaptureCause, CaptureFault};
-use crate::packet_error::PacketError;
 use crate::packet_reader::PacketReader;
 use list_core::{Event, InputFault, ReadError, ReadItems, Source};
 use std::alloc::Allocator;
@@ -45,11 +44,7 @@ impl<R: Source, A: Allocator + Copy> ReadItems<A> for PacketReader<R, A> {
         alloc: A,
         spare: &mut Option<Event<A>>,
     ) -> Result<Option<Event<A>>, ReadError<CaptureFault>> {
-        match self.next(alloc, spare) {
-            Ok(event) => Ok(event),
-            Err(PacketError::Fault(fault)) => Err(ReadError::Fault(fault)),
-            Err(PacketError::Memory(error)) => Err(ReadError::Memory(error)),
-        }
+        self.next(alloc, spare)
     }
 
     fn item_number(&self) -> u64 {

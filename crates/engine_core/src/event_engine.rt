@@ -12,7 +12,7 @@ use crate::dated::put_dated;
 use crate::running::{Engine, run_over};
 use crate::stopped::Stopped;
 use crate::style::{HasStyle, InText, Style};
-use list_core::{Event, InputFault, LineError, ReadItems, Sink};
+use list_core::{Event, InputFault, ReadError, ReadItems, Sink};
 use object_core::{Form, LastObject};
 use std::alloc::{AllocError, Allocator};
 use text_core::LastLine;
@@ -133,7 +133,7 @@ impl<A: Allocator, F: InputFault + LastLine + LastObject, S: HasStyle, E: EventE
         number: u64,
         event: Event<A>,
         spare: &mut Option<Event<A>>,
-    ) -> Result<bool, LineError<F::Refusal>> {
+    ) -> Result<bool, ReadError<F::Refusal>> {
         let put = put_in_style(
             self.style.style(),
             &mut self.engine,
@@ -145,7 +145,7 @@ impl<A: Allocator, F: InputFault + LastLine + LastObject, S: HasStyle, E: EventE
         *spare = Some(event);
         match put {
             Ok(found) => Ok(found),
-            Err(error) => Err(LineError::Memory(error)),
+            Err(error) => Err(ReadError::Memory(error)),
         }
     }
 

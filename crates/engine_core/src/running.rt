@@ -15,8 +15,7 @@ ghost use Rattle.engine_core.specs.computed.EngineStep.{StepWrites, Takes, is_fa
 use crate::ending::Ending;
 use crate::stopped::{Halt, Stopped};
 use list_core::{
-    InputFault, ItemFault, ItemReader, LineError, LineRules, ReadError, ReadItems, Sink, Source,
-    put_all,
+    InputFault, ItemFault, ItemReader, LineRules, ReadError, ReadItems, Sink, Source, put_all,
 };
 use std::alloc::{AllocError, Allocator};
 
@@ -40,7 +39,7 @@ pub trait Engine<A: Allocator, F: InputFault> {
         number: u64,
         item: Self::Item,
         spare: &mut Option<Self::Item>,
-    ) -> Result<bool, LineError<F::Refusal>>
+    ) -> Result<bool, ReadError<F::Refusal>>
         ensures same { Alike (allows self.old) (allows self.new) }
         ensures step { (before : List (ℕ × Self.Item)) → stands self.old before →
             Takes F.refused (allows self.old) (stands self.new) before (number, item) result line.old.items line.new.items }
@@ -118,10 +117,10 @@ fn answer_item<A: Allocator, F: InputFault + Drop, E: Engine<A, F>, W: Sink>(
             Ok(()) => Next::Wrote(found),
             Err(_) => Next::Stop(Halt::WriteFault),
         },
-        Err(LineError::Cause(cause)) => {
+        Err(ReadError::Fault(cause)) => {
             Next::Stop(answer_fault(engine, line, F::of_refused(number, cause), writer))
         }
-        Err(LineError::Memory(_)) => Next::Stop(Halt::Memory),
+        Err(ReadError::Memory(_)) => Next::Stop(Halt::Memory),
     }
 }
 

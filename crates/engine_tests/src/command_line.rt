@@ -168,13 +168,21 @@ fn is_refused_by(rt: &HostRuntime, words: &[&str], kind: ErrorKind) -> bool {
 }
 
 // Words that are refused, and by which kind of error: no mistake is told as want of memory.
-const REFUSALS: [(&[&str], ErrorKind); 16] = [
+const REFUSALS: [(&[&str], ErrorKind); 18] = [
     (&[], ErrorKind::MissingSubcommand),
     (&["goose"], ErrorKind::MissingSubcommand),
     (&["goose", "fly"], ErrorKind::InvalidSubcommand),
-    // Two options exclude each other, and a command that writes lists takes none.
+    // Options exclude each other, and a command that writes lists takes none.
     (
         &["goose", "show", "--json", "--time"],
+        ErrorKind::ArgumentConflict,
+    ),
+    (
+        &["goose", "check", "--raw", "-r", "a", "--skip-other"],
+        ErrorKind::ArgumentConflict,
+    ),
+    (
+        &["goose", "replay", "--unwrap", "0001,G,D,,1,1", "--raw"],
         ErrorKind::ArgumentConflict,
     ),
     (

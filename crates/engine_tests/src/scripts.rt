@@ -1,7 +1,7 @@
 //! The lines of a script where memory is refused, at each growth in turn: once it is granted, the same line is read again.
 
 use ber_core::Cause;
-use list_core::{ItemError, ItemFault, ItemReader, Source};
+use list_core::{ItemFault, ItemReader, ReadError, Source};
 use script_core::{ScriptCause, ScriptItem, ScriptLines};
 use std::alloc::{Allocator, Global};
 use test_support::{NEVER, RefusingAlloc, source_of};
@@ -41,8 +41,8 @@ fn next_answer<S: Source>(
 ) -> Answer {
     match script.next(alloc, &mut None) {
         Ok(Some(item)) => item_told(&item),
-        Err(ItemError::Fault(ItemFault::Line(number, cause))) => Answer::Fault(number, cause),
-        Err(ItemError::Memory(_)) => Answer::Memory,
+        Err(ReadError::Fault(ItemFault::Line(number, cause))) => Answer::Fault(number, cause),
+        Err(ReadError::Memory(_)) => Answer::Memory,
         _ => Answer::Other,
     }
 }

@@ -27,8 +27,8 @@ use Rattle.script_core.specs.declared.script.ScriptCause.{ScriptCause}
 use Rattle.script_core.specs.declared.script.ScriptCause.TheVariants as cause
 use Rattle.script_core.specs.declared.script.ScriptItem.{ScriptItem}
 use Rattle.script_core.specs.declared.script.ScriptItem.TheVariants as item
-use Rattle.list_core.specs.declared.line_rules.LineError.{LineError}
-use Rattle.list_core.specs.declared.line_rules.LineError.TheVariants as line
+use Rattle.list_core.specs.declared.read_error.ReadError.{ReadError}
+use Rattle.list_core.specs.declared.read_error.ReadError.TheVariants as read
 use Rattle.list_core.specs.declared.line_rules.ItemFault.TheVariants as of_line
 use Rattle.engine_core.specs.computed.EngineStep.{Takes}
 use Rattle.engine_core.specs.EngineText.{exactly, step_text}
@@ -253,7 +253,7 @@ polled_there {A} p calls m octets sound published n none =
     let h = ap (answer_text {A = A} (greatest_call_moment (calls ++ c ∷ []))) same ∙ none in cc
 
 -- a poll of a publisher that runs is the item's
-pub poll_is : {A : Type 0} (g : Progress A) (held s : PublisherState A) (m : ℕ) (r : Result (Unit {0}) (LineError ScriptCause)) (old new : List ℕ) → RunsPublisher g held →
+pub poll_is : {A : Type 0} (g : Progress A) (held s : PublisherState A) (m : ℕ) (r : Result (Unit {0}) (ReadError ScriptCause)) (old new : List ℕ) → RunsPublisher g held →
     ((p : Setup A) (calls : List Call) → IsScriptSound p → PublisherStandsAfter p calls held → TakesCall p calls (call m Polled) r old new s) → TakesItem g (item.Poll m) r (stage.Running s) old new
 poll_is g held s m (Ok u) old new w takes =
     let t = takes w.p w.calls w.is_sound w.stands in
@@ -263,8 +263,8 @@ poll_is g held s m (Ok u) old new w takes =
       appended = t.appended;
       holds = subst (Holds (stage.Running s)) (sym (w.goes_on (call m Polled))) (w.is_sound, t.stands_after);
     }
-poll_is g held s m (Err (line.Cause why)) old new w takes = w.writes (call m Polled) ∙ takes w.p w.calls w.is_sound w.stands
-poll_is {A} g held s m (Err (line.Memory x)) old new w takes = λ n none.
+poll_is g held s m (Err (read.Fault why)) old new w takes = w.writes (call m Polled) ∙ takes w.p w.calls w.is_sound w.stands
+poll_is {A} g held s m (Err (read.Memory x)) old new w takes = λ n none.
     takes w.p w.calls w.is_sound w.stands n (ap (step_text (publish_text {A = A}) n) (sym (w.writes (call m Polled))) ∙ none)
 
 -- an item was taken, and the engine stands after it

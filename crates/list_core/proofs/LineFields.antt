@@ -7,7 +7,7 @@ use Rattle.std.proofs.lemmas.Bool.Decides.{nat_tests}
 use Rattle.std.proofs.lemmas.List.{length-take}
 use Rattle.std.proofs.lemmas.List.Folds.{list_all_at}
 use Rattle.list_core.specs.declared.event.Event.{Event}
-use Rattle.list_core.specs.declared.line_rules.LineError.{LineError}
+use Rattle.list_core.specs.declared.read_error.ReadError.{ReadError}
 use Rattle.list_core.specs.declared.list_fault.ListCause.{ListCause}
 use Rattle.list_core.specs.declared.list_fault.ListCause.TheVariants.{LineForm, Moment, Hex}
 use Rattle.list_core.specs.declared.event_lines.MomentUnit.{MomentUnit}
@@ -75,7 +75,7 @@ moment_some v m = elim (is_moment v m) as (λ b. is_some (if b then Some (digits
 ]
 
 -- digits that write octets are one field
-pub frame_answer : {A : Type 0} (r : Result (Option (Event A)) (LineError ListCause)) (v : MomentUnit) (xs m h : List ℕ) → fields xs ≡ m ∷ fields h → 0 < length m → is_some (frame_octets_by h) ≡ true
+pub frame_answer : {A : Type 0} (r : Result (Option (Event A)) (ReadError ListCause)) (v : MomentUnit) (xs m h : List ℕ) → fields xs ≡ m ∷ fields h → 0 < length m → is_some (frame_octets_by h) ≡ true
     → Answers r (frame_event (moment_of v m) (frame_octets_by h)) (is_some (moment_of v m)) → Answers r (event_of_fields v ((70 ∷ []) ∷ fields xs)) (fields_keep v ((70 ∷ []) ∷ fields xs))
 frame_answer {A = A} r v xs m h cut some good answer =
     let octets = some_is (frame_octets_by h) good in

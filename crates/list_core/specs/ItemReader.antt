@@ -1,16 +1,15 @@
 -- What the answers of a reader of items say of its text.
-use Rattle.std.specs.Prelude.{◌≡◌, ◌⊎◌, ℕ, ◌+◌, ◌-◌, ◌<◌, ◌≤◌, List, [], ◌++◌, length, take, true, Option, Some, None, Result, Ok, Err}
+use Rattle.std.specs.Prelude.{◌≡◌, ◌⊎◌, ℕ, ◌+◌, ◌-◌, ◌<◌, ◌≤◌, List, [], ◌++◌, length, take, true, Option, Some, None, Ok, Err}
 use Rattle.std.specs.Io.KnownBytes.{Consumes}
 use Rattle.list_core.specs.declared.device.InputEnd.{InputEnd}
 use Rattle.list_core.specs.declared.line_rules.ItemFault.{ItemFault}
 use Rattle.list_core.specs.declared.line_rules.ItemFault.TheVariants as fault
 use Rattle.list_core.specs.declared.item_reader.ItemReader.{ItemReader}
-use Rattle.list_core.specs.declared.item_reader.ItemError.{ItemError}
-use Rattle.list_core.specs.declared.item_reader.ItemError.TheVariants as error
 use Rattle.list_core.specs.Device.{GivesOctets, OnlyOpen}
 use Rattle.list_core.specs.FirstLine.{IsFront}
 use Rattle.list_core.specs.Lines.{finished, faulty, StartsLine, WhateverComes, without_cr}
 use Rattle.list_core.specs.Items.{Rules, Listing, put_item, stops, listing}
+use Rattle.list_core.specs.ReadItems.{AnswerOf}
 use Rattle.list_core.specs.Reader.{IsWanting, Stream, stream}
 
 -- a text that is being read: what the source has left and how it ends, the octets that are held and not answered, the count of lines taken before, and what they settled
@@ -51,14 +50,7 @@ item_number r = r.number
 
 -- an answer of a reader of items: an item with the number of its line, the end, a fault, or want of memory
 abbrev pub Answer : Type 0 → Type 0 → Type 0
-Answer X C = Result (Option (ℕ × X)) (Option (ItemFault C))
-
--- an answer, its item with the number of its line
-abbrev pub answer_of : {X C : Type 0} → ℕ → Result (Option X) (ItemError C) → Answer X C
-answer_of n (Ok None) = Ok None
-answer_of n (Ok (Some x)) = Ok (Some (n, x))
-answer_of n (Err (error.Fault f)) = Err (Some f)
-answer_of n (Err (error.Memory e)) = Err None
+Answer X C = AnswerOf X (ItemFault C)
 
 -- the line of a fault
 abbrev pub line_of : {C : Type 0} → ItemFault C → ℕ

@@ -4,8 +4,8 @@ use Rattle.list_core.specs.declared.device.InputEnd.{InputEnd}
 use Rattle.list_core.specs.declared.list_fault.ListFault.{ListFault}
 use Rattle.list_core.specs.declared.line_rules.ItemFault.{ItemFault}
 use Rattle.list_core.specs.declared.line_rules.ItemFault.TheVariants as fault
-use Rattle.list_core.specs.declared.line_rules.LineError.{LineError}
-use Rattle.list_core.specs.declared.line_rules.LineError.TheVariants as line
+use Rattle.list_core.specs.declared.read_error.ReadError.{ReadError}
+use Rattle.list_core.specs.declared.read_error.ReadError.TheVariants as read
 use Rattle.list_core.specs.Lines.{LineListing, Stop, finished, unfinished, faulty, reading}
 
 -- The rules of a kind of list: what a line says, given what the lines before it settled. S is what lines settle, as
@@ -72,7 +72,7 @@ listing r s z n text = items_in r s n (reading z n text)
 -- What reading one line answers, and what is settled then: what the rules say that the line gives, or why it is
 -- refused; or memory was wanted, which is so only where the line has something to keep. On a refusal, and on want of
 -- memory, what was settled stays.
-abbrev pub Says : {S X C : Type 0} → Rules S X C → S → List ℕ → Result (Option X) (LineError C) → S → Type 0
+abbrev pub Says : {S X C : Type 0} → Rules S X C → S → List ℕ → Result (Option X) (ReadError C) → S → Type 0
 Says r s l (Ok x) t = r.said s l ≡ Ok (x, t)
-Says r s l (Err (line.Cause why)) t = (r.said s l ≡ Err why) × (t ≡ s)
-Says r s l (Err (line.Memory e)) t = (r.keeps s l ≡ true) × (t ≡ s)
+Says r s l (Err (read.Fault why)) t = (r.said s l ≡ Err why) × (t ≡ s)
+Says r s l (Err (read.Memory e)) t = (r.keeps s l ≡ true) × (t ≡ s)

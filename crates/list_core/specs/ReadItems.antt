@@ -4,8 +4,8 @@ use Rattle.list_core.specs.declared.list_fault.ListCause.{ListCause}
 use Rattle.list_core.specs.declared.list_fault.ListCause.TheVariants.{LineTooLong, LineForm, Moment, Hex, ListTooLong, ReadFailed}
 use Rattle.list_core.specs.declared.line_rules.ItemFault.{ItemFault}
 use Rattle.list_core.specs.declared.line_rules.ItemFault.TheVariants as fault
-use Rattle.list_core.specs.declared.read_items.ReadError.{ReadError}
-use Rattle.list_core.specs.declared.read_items.ReadError.TheVariants as error
+use Rattle.list_core.specs.declared.read_error.ReadError.{ReadError}
+use Rattle.list_core.specs.declared.read_error.ReadError.TheVariants as error
 
 -- an answer of a reader: an item with its number, the end, a fault, or want of memory
 abbrev pub AnswerOf : Type 0 → Type 0 → Type 0

@@ -2,9 +2,10 @@
 ghost use Rattle.list_core.specs.EventLine.{event_rules};
 
 use crate::event::Event;
-use crate::line_rules::{LineError, LineRules};
+use crate::line_rules::LineRules;
 use crate::list_fault::ListCause;
 use crate::list_line::event_in;
+use crate::read_error::ReadError;
 use std::alloc::Allocator;
 
 /// The unit of a moment's digits.
@@ -38,7 +39,7 @@ impl<A: Allocator + Copy> LineRules<A> for EventLines {
         alloc: A,
         spare: &mut Option<Event<A>>,
         line: &[u8],
-    ) -> Result<Option<Event<A>>, LineError<ListCause>> {
+    ) -> Result<Option<Event<A>>, ReadError<ListCause>> {
         let unit = match *self {
             EventLines::After(unit) => unit,
             EventLines::First => match line {

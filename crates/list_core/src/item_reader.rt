@@ -3,17 +3,9 @@ ghost use Rattle.std.specs.Prelude.{◌≡◌, ◌≢◌, ◌+◌, [], MatchOpti
 
 use crate::device::Source;
 use crate::line_reader::LineReader;
-use crate::line_rules::{ItemFault, LineError, LineRules};
-use std::alloc::{AllocError, Allocator};
-
-/// Why a list gives no further item.
-#[derive(Drop)]
-pub enum ItemError<C> {
-    /// The list's first fault.
-    Fault(ItemFault<C>),
-    /// Memory was wanted. The next call tries the same line again.
-    Memory(AllocError),
-}
+use crate::line_rules::{ItemFault, LineRules};
+use crate::read_error::ReadError;
+use std::alloc::Allocator;
 
 /// What one line gave.
 #[derive(Drop)]
@@ -21,7 +13,7 @@ enum Tried<X, C> {
     /// The line has no item and was taken off.
     Skipped,
     /// The answer to the caller.
-    Answered(Result<Option<X>, ItemError<C>>),
+    Answered(Result<Option<X>, ReadError<ItemFault<C>>>),
 }
 
 /// Reads a list item by item. It holds 8,192 octets at most.
@@ -33,7 +25,8 @@ pub struct ItemReader<R, G> {
 }
 
 impl<R: Source, G> ItemReader<R, G> {
-    ghost use Rattle.list_core.specs.ItemReader.{AnswersItem, answer_of, item_number, item_state, item_number_told};
+    ghost use Rattle.list_core.specs.ItemReader.{AnswersItem, item_number, item_state, item_number_told};
+    ghost use Rattle.list_core.specs.ReadItems.{told_as};
     ghost use Rattle.list_core.specs.computed.PrivateCalls.{Tries};
 
     /// A reader of the list that the source gives.
@@ -86,13 +79,13 @@ impl<R: Source, G> ItemReader<R, G> {
         match self.lines.fill() {
             Err(fault) => {
                 self.number = fault.line;
-                Tried::Answered(Err(ItemError::Fault(ItemFault::Lines(fault))))
+                Tried::Answered(Err(ReadError::Fault(ItemFault::Lines(fault))))
             }
             Ok(None) => match self.rules.lacks() {
                 None => Tried::Answered(Ok(None)),
                 Some(cause) => {
                     self.number = self.lines.next_number();
-                    Tried::Answered(Err(ItemError::Fault(ItemFault::Line(self.number, cause))))
+                    Tried::Answered(Err(ReadError::Fault(ItemFault::Line(self.number, cause))))
                 }
             },
             Ok(Some(size)) => match self.rules.item_in(alloc, spare, self.lines.front(size)) {
@@ -105,10 +98,10 @@ impl<R: Source, G> ItemReader<R, G> {
                     self.number = self.lines.line_number();
                     Tried::Answered(Ok(Some(item)))
                 }
-                Err(LineError::Memory(error)) => Tried::Answered(Err(ItemError::Memory(error))),
-                Err(LineError::Cause(cause)) => {
+                Err(ReadError::Memory(error)) => Tried::Answered(Err(ReadError::Memory(error))),
+                Err(ReadError::Fault(cause)) => {
                     self.number = self.lines.next_number();
-                    Tried::Answered(Err(ItemError::Fault(ItemFault::Line(self.number, cause))))
+                    Tried::Answered(Err(ReadError::Fault(ItemFault::Line(self.number, cause))))
                 }
             },
         }
@@ -122,11 +115,11 @@ impl<R: Source, G> ItemReader<R, G> {
         &mut self,
         alloc: A,
         spare: &mut Option<G::Item>,
-    ) -> Result<Option<G::Item>, ItemError<G::Cause>>
+    ) -> Result<Option<G::Item>, ReadError<ItemFault<G::Cause>>>
     where
         G: LineRules<A>,
-        ensures item { AnswersItem G.rules (item_state R.left R.ending self.old) (answer_of (item_number self.new) result) (item_state R.left R.ending self.new) }
-        ensures number { item_number self.new ≡ item_number_told (answer_of (item_number self.new) result) (item_number self.old) }
+        ensures item { AnswersItem G.rules (item_state R.left R.ending self.old) (told_as (item_number self.new) result) (item_state R.left R.ending self.new) }
+        ensures number { item_number self.new ≡ item_number_told (told_as (item_number self.new) result) (item_number self.old) }
     {
         'tries: loop {
             match self.try_line(alloc, spare) {

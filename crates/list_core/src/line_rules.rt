@@ -3,16 +3,8 @@ ghost use Rattle.std.specs.Prelude.{◌≡◌, ◌≤◌, length};
 ghost use Rattle.list_core.specs.Items.{Rules, Says};
 
 use crate::list_fault::ListFault;
-use std::alloc::{AllocError, Allocator};
-
-/// Why a line gives no item.
-#[derive(Drop)]
-pub enum LineError<C> {
-    /// The line is refused.
-    Cause(C),
-    /// Memory was wanted.
-    Memory(AllocError),
-}
+use crate::read_error::ReadError;
+use std::alloc::Allocator;
 
 /// The first fault of a list of items.
 #[derive(Drop)]
@@ -42,7 +34,7 @@ pub trait LineRules<A: Allocator> {
         alloc: A,
         spare: &mut Option<Self::Item>,
         line: &[u8],
-    ) -> Result<Option<Self::Item>, LineError<Self::Cause>>
+    ) -> Result<Option<Self::Item>, ReadError<Self::Cause>>
         requires { length line.now ≤ 4096 }
         ensures { Says rules self.old line.now result self.new };
 

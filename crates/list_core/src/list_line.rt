@@ -9,8 +9,8 @@ use crate::decimal::{decimal_in, number_in_front};
 use crate::event::{Event, EventKind};
 use crate::event_lines::MomentUnit;
 use crate::hexadecimal::octets_by;
-use crate::line_rules::LineError;
 use crate::list_fault::ListCause;
+use crate::read_error::ReadError;
 use ber_core::Octets;
 use std::alloc::{AllocError, Allocator};
 
@@ -33,7 +33,7 @@ pub(crate) fn event_in<A: Allocator + Copy>(
     spare: &mut Option<Event<A>>,
     unit: MomentUnit,
     line: &[u8],
-) -> Result<Option<Event<A>>, LineError<ListCause>>
+) -> Result<Option<Event<A>>, ReadError<ListCause>>
     ensures { Answers result (event_of unit line.now) (fields_keep unit (fields line.now)) }
 {
     match line {
@@ -49,18 +49,18 @@ fn event_in_fields<A: Allocator + Copy>(
     spare: &mut Option<Event<A>>,
     unit: MomentUnit,
     line: &[u8],
-) -> Result<Option<Event<A>>, LineError<ListCause>>
+) -> Result<Option<Event<A>>, ReadError<ListCause>>
     ensures { Answers result (event_of_fields unit (fields line.now)) (fields_keep unit (fields line.now)) }
 {
     let (name, rest) = first_field(line);
     let Some(rest) = rest else {
-        return Err(LineError::Cause(ListCause::LineForm));
+        return Err(ReadError::Fault(ListCause::LineForm));
     };
     match name {
         [b'C'] => clock_in(unit, rest),
         [b'F'] => frame_in(alloc, spare, unit, rest),
         [b'M'] => mode_in(unit, rest),
-        _ => Err(LineError::Cause(ListCause::LineForm)),
+        _ => Err(ReadError::Fault(ListCause::LineForm)),
     }
 }
 
@@ -68,22 +68,22 @@ fn event_in_fields<A: Allocator + Copy>(
 fn clock_in<A: Allocator>(
     unit: MomentUnit,
     rest: &[u8],
-) -> Result<Option<Event<A>>, LineError<ListCause>>
+) -> Result<Option<Event<A>>, ReadError<ListCause>>
     ensures { Answers result (event_of_fields unit ((67 ∷ []) ∷ fields rest.now)) (fields_keep unit ((67 ∷ []) ∷ fields rest.now)) }
 {
     let (moment, more) = first_field(rest);
     if more.is_some() {
-        return Err(LineError::Cause(ListCause::LineForm));
+        return Err(ReadError::Fault(ListCause::LineForm));
     }
     if moment.is_empty() {
-        return Err(LineError::Cause(ListCause::LineForm));
+        return Err(ReadError::Fault(ListCause::LineForm));
     }
     match moment_in(unit, moment) {
         Some(moment) => Ok(Some(Event {
             moment,
             kind: EventKind::Clock,
         })),
-        None => Err(LineError::Cause(ListCause::Moment)),
+        None => Err(ReadError::Fault(ListCause::Moment)),
     }
 }
 
@@ -94,16 +94,16 @@ fn frame_in<A: Allocator + Copy>(
     spare: &mut Option<Event<A>>,
     unit: MomentUnit,
     rest: &[u8],
-) -> Result<Option<Event<A>>, LineError<ListCause>>
+) -> Result<Option<Event<A>>, ReadError<ListCause>>
     ensures { Answers result (event_of_fields unit ((70 ∷ []) ∷ fields rest.now)) (fields_keep unit ((70 ∷ []) ∷ fields rest.now)) }
 {
     let Some((moment, digits)) = front_in::<A>(unit, rest) else {
-        return Err(LineError::Cause(ListCause::LineForm));
+        return Err(ReadError::Fault(ListCause::LineForm));
     };
     // Digits that write octets are one field, since none of them is a space.
     match frame_octets_in(alloc, spare, digits) {
         Some(octets) => frame_event(moment, octets),
-        None => Err(LineError::Cause(why_no_frame::<A>(unit, moment, digits))),
+        None => Err(ReadError::Fault(why_no_frame::<A>(unit, moment, digits))),
     }
 }
 
@@ -174,18 +174,18 @@ fn frame_octets_in<A: Allocator>(
 fn frame_event<A: Allocator>(
     moment: Option<u64>,
     octets: Result<Octets<A>, AllocError>,
-) -> Result<Option<Event<A>>, LineError<ListCause>>
+) -> Result<Option<Event<A>>, ReadError<ListCause>>
     ensures { (written : Option (List ℕ)) → OctetsAreRead octets written → Answers result (frame_event moment written) (is_some moment) }
 {
     let Some(moment) = moment else {
-        return Err(LineError::Cause(ListCause::Moment));
+        return Err(ReadError::Fault(ListCause::Moment));
     };
     match octets {
         Ok(octets) => Ok(Some(Event {
             moment,
             kind: EventKind::Frame(octets),
         })),
-        Err(error) => Err(LineError::Memory(error)),
+        Err(error) => Err(ReadError::Memory(error)),
     }
 }
 
@@ -209,29 +209,29 @@ fn why_no_frame<A: Allocator>(unit: MomentUnit, moment: Option<u64>, rest: &[u8]
 fn mode_in<A: Allocator>(
     unit: MomentUnit,
     rest: &[u8],
-) -> Result<Option<Event<A>>, LineError<ListCause>>
+) -> Result<Option<Event<A>>, ReadError<ListCause>>
     ensures { Answers result (event_of_fields unit ((77 ∷ []) ∷ fields rest.now)) (fields_keep unit ((77 ∷ []) ∷ fields rest.now)) }
 {
     let (moment, rest) = first_field(rest);
     let Some(rest) = rest else {
-        return Err(LineError::Cause(ListCause::LineForm));
+        return Err(ReadError::Fault(ListCause::LineForm));
     };
     let (mode, more) = first_field(rest);
     if more.is_some() {
-        return Err(LineError::Cause(ListCause::LineForm));
+        return Err(ReadError::Fault(ListCause::LineForm));
     }
     if moment.is_empty() {
-        return Err(LineError::Cause(ListCause::LineForm));
+        return Err(ReadError::Fault(ListCause::LineForm));
     }
     let Some(on) = mode_named(mode) else {
-        return Err(LineError::Cause(ListCause::LineForm));
+        return Err(ReadError::Fault(ListCause::LineForm));
     };
     match moment_in(unit, moment) {
         Some(moment) => Ok(Some(Event {
             moment,
             kind: EventKind::Mode(on),
         })),
-        None => Err(LineError::Cause(ListCause::Moment)),
+        None => Err(ReadError::Fault(ListCause::Moment)),
     }
 }
 

@@ -2,7 +2,8 @@
 ghost use Rattle.std.specs.Prelude.{◌≡◌, [], ℕ};
 ghost use Rattle.list_core.specs.declared.event.Event.{Event as SpecEvent};
 ghost use Rattle.list_core.specs.declared.list_fault.ListCause.{ListCause as SpecCause};
-ghost use Rattle.list_core.specs.ItemReader.{Answer, answer_of};
+ghost use Rattle.list_core.specs.ItemReader.{Answer};
+ghost use Rattle.list_core.specs.ReadItems.{told_as};
 ghost use Rattle.list_core.specs.ListReader.{IsToldAs, list_fault_of};
 ghost use Rattle.list_core.specs.declared.event_lines.EventLines.TheVariants.{First};
 ghost use Rattle.list_core.specs.EventLine.{event_rules};
@@ -10,9 +11,10 @@ ghost use Rattle.list_core.specs.EventLine.{event_rules};
 use crate::device::Source;
 use crate::event::Event;
 use crate::event_lines::EventLines;
-use crate::item_reader::{ItemError, ItemReader};
+use crate::item_reader::ItemReader;
 use crate::line_rules::ItemFault;
 use crate::list_fault::{ListCause, ListFault};
+use crate::read_error::ReadError;
 use std::alloc::{AllocError, Allocator};
 use thiserror::Error;
 
@@ -48,14 +50,14 @@ pub fn fault_of_list(fault: &ItemFault<ListCause>) -> ListFault
 
 /// An answer about the items of a list of events, as one about its events.
 fn told_of_list<A: Allocator>(
-    answer: Result<Option<Event<A>>, ItemError<ListCause>>,
+    answer: Result<Option<Event<A>>, ReadError<ItemFault<ListCause>>>,
 ) -> Result<Option<Event<A>>, ListError>
-    ensures { (n : ℕ) → IsToldAs n (answer_of n answer) result }
+    ensures { (n : ℕ) → IsToldAs n (told_as n answer) result }
 {
     match answer {
         Ok(event) => Ok(event),
-        Err(ItemError::Fault(fault)) => Err(ListError::Fault(fault_of_list(&fault))),
-        Err(ItemError::Memory(error)) => Err(ListError::Memory(error)),
+        Err(ReadError::Fault(fault)) => Err(ListError::Fault(fault_of_list(&fault))),
+        Err(ReadError::Memory(error)) => Err(ListError::Memory(error)),
     }
 }
 

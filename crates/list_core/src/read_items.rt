@@ -5,19 +5,11 @@ ghost use Rattle.list_core.specs.declared.line_rules.ItemFault.TheVariants.{Line
 ghost use Rattle.list_core.specs.ReadItems.{AnswerOf, is_failed_read, is_of_source, told_as};
 
 use crate::device::Source;
-use crate::item_reader::{ItemError, ItemReader};
+use crate::item_reader::ItemReader;
 use crate::line_rules::{ItemFault, LineRules};
 use crate::list_fault::ListCause;
-use std::alloc::{AllocError, Allocator};
-
-/// Why a reader gives no further item.
-#[derive(Drop)]
-pub enum ReadError<F> {
-    /// The input's first fault.
-    Fault(F),
-    /// Memory was wanted.
-    Memory(AllocError),
-}
+use crate::read_error::ReadError;
+use std::alloc::Allocator;
 
 /// Why an input gives no further item: what is wrong in it, or that its source failed.
 pub trait InputFault {
@@ -116,10 +108,11 @@ impl<A: Allocator + Copy, R: Source, G: LineRules<A>> ReadItems<A> for ItemReade
         alloc: A,
         spare: &mut Option<G::Item>,
     ) -> Result<Option<G::Item>, ReadError<ItemFault<G::Cause>>> {
+        // Taken apart here, the answer is not moved once more.
         match self.next(alloc, spare) {
             Ok(item) => Ok(item),
-            Err(ItemError::Fault(fault)) => Err(ReadError::Fault(fault)),
-            Err(ItemError::Memory(error)) => Err(ReadError::Memory(error)),
+            Err(ReadError::Fault(fault)) => Err(ReadError::Fault(fault)),
+            Err(ReadError::Memory(error)) => Err(ReadError::Memory(error)),
         }
     }
 

@@ -12,7 +12,7 @@ use crate::losing::Losing;
 use crate::passage::Passage;
 use crate::unjudged::Unjudged;
 use engine_core::{Engine, Stopped, Style, put_fault_in, run_over};
-use list_core::{Event, InputFault, LineError, ReadItems, Sink};
+use list_core::{Event, InputFault, ReadError, ReadItems, Sink};
 use loss_core::StreamPeriod;
 use object_core::LastObject;
 use std::alloc::{AllocError, Allocator};
@@ -50,13 +50,13 @@ impl<A: Allocator, F: InputFault + LastLine + LastObject> Engine<A, F> for Handi
         _number: u64,
         passage: Passage<A>,
         spare: &mut Option<Passage<A>>,
-    ) -> Result<bool, LineError<F::Refusal>> {
+    ) -> Result<bool, ReadError<F::Refusal>> {
         let put = put_passage(line, &passage);
         let is_finding = passage.is_finding();
         *spare = Some(passage);
         match put {
             Ok(()) => Ok(is_finding),
-            Err(error) => Err(LineError::Memory(error)),
+            Err(error) => Err(ReadError::Memory(error)),
         }
     }
 

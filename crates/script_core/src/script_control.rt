@@ -11,7 +11,7 @@ ghost use Rattle.script_core.specs.computed.ControlView.{control_seen, view_keep
 use crate::script::{ScriptCause, ScriptItem, ScriptPart};
 use block_core::commas::{fields_of, number_by, text_in, word_in};
 use frame_core::VlanTag;
-use list_core::{LineError, cut_first};
+use list_core::{ReadError, cut_first};
 use mms_data::Octets;
 use publish_core::{Control, MOST_STEPS, Step};
 use std::alloc::{AllocError, Allocator};
@@ -200,25 +200,25 @@ pub fn control_line<A: Allocator + Copy>(
     alloc: A,
     part: ScriptPart,
     fields: Option<&[u8]>,
-) -> Result<(Option<ScriptItem<A>>, ScriptPart), LineError<ScriptCause>>
+) -> Result<(Option<ScriptItem<A>>, ScriptPart), ReadError<ScriptCause>>
     ensures { AnswersScriptLine result (control_said part (control_of (parts_after 44 fields.entry))) (control_keeps part (control_of (parts_after 44 fields.entry))) }
 {
     let ScriptPart::Control = part else {
-        return Err(LineError::Cause(ScriptCause::ScriptForm));
+        return Err(ReadError::Fault(ScriptCause::ScriptForm));
     };
     let Some(view) = view_control(fields) else {
-        return Err(LineError::Cause(ScriptCause::ScriptForm));
+        return Err(ReadError::Fault(ScriptCause::ScriptForm));
     };
     let first = view.numbers.first;
     if first == 0 {
-        return Err(LineError::Cause(ScriptCause::FirstState));
+        return Err(ReadError::Fault(ScriptCause::FirstState));
     }
     match owned(alloc, view) {
         Ok(control) => Ok((
             Some(ScriptItem::Control(control, first)),
             ScriptPart::Steps(0),
         )),
-        Err(error) => Err(LineError::Memory(error)),
+        Err(error) => Err(ReadError::Memory(error)),
     }
 }
 

@@ -11,7 +11,7 @@ use crate::script::{ScriptCause, ScriptItem, ScriptPart};
 use crate::script_control::{control_line, step_line};
 use block_core::commas::fields_of;
 use byteorder::{BigEndian, ByteOrder};
-use list_core::{LineError, MomentUnit, cut_first, moment_in};
+use list_core::{MomentUnit, ReadError, cut_first, moment_in};
 use mms_data::{ReadFault, UtcTime, ValueList, read_members};
 use std::alloc::Allocator;
 
@@ -77,13 +77,13 @@ fn values_in<A: Allocator + Copy>(
     moment: u64,
     t: UtcTime,
     octets: &[u8],
-) -> Result<ScriptItem<A>, LineError<ScriptCause>>
+) -> Result<ScriptItem<A>, ReadError<ScriptCause>>
     ensures { AnswersScriptLine result (change_said_by (Some moment) (Some t) (Some octets.now)) (octets_keep octets.now) }
 {
     match read_members(alloc, octets, 0, octets.len(), 1) {
         Ok(values) => Ok(ScriptItem::Change(moment, t, ValueList::from(values))),
-        Err(ReadFault::Fault(fault)) => Err(LineError::Cause(ScriptCause::Members(fault))),
-        Err(ReadFault::Memory(error)) => Err(LineError::Memory(error)),
+        Err(ReadFault::Fault(fault)) => Err(ReadError::Fault(ScriptCause::Members(fault))),
+        Err(ReadFault::Memory(error)) => Err(ReadError::Memory(error)),
     }
 }
 
@@ -94,21 +94,21 @@ fn change_of_fields<A: Allocator + Copy>(
     moment: &[u8],
     t: &[u8],
     members: &[u8],
-) -> Result<ScriptItem<A>, LineError<ScriptCause>>
+) -> Result<ScriptItem<A>, ReadError<ScriptCause>>
     requires { length members.now ≤ 4096 }
     ensures { AnswersScriptLine result (change_said_by (moment_of unit moment.now) (time_in t.now) (all_octets_in members.now)) (members_keep (moment_of unit moment.now) (time_in t.now) (all_octets_in members.now)) }
 {
     let Some(moment) = moment_in(unit, moment) else {
-        return Err(LineError::Cause(ScriptCause::Moment));
+        return Err(ReadError::Fault(ScriptCause::Moment));
     };
     let Some(t) = time_in(t) else {
-        return Err(LineError::Cause(ScriptCause::Hex));
+        return Err(ReadError::Fault(ScriptCause::Hex));
     };
     let mut room = [0; MOST_OCTETS_OF_MEMBERS];
     let octets = &mut room[..members.len() / 2];
     match hex::decode_to_slice(members, octets) {
         Ok(()) => values_in(alloc, moment, t, octets),
-        Err(_) => Err(LineError::Cause(ScriptCause::Hex)),
+        Err(_) => Err(ReadError::Fault(ScriptCause::Hex)),
     }
 }
 
@@ -118,27 +118,27 @@ pub fn change_line<A: Allocator + Copy>(
     unit: MomentUnit,
     part: ScriptPart,
     fields: Option<&[u8]>,
-) -> Result<(Option<ScriptItem<A>>, ScriptPart), LineError<ScriptCause>>
+) -> Result<(Option<ScriptItem<A>>, ScriptPart), ReadError<ScriptCause>>
     requires { IfSome fields (λ fields. length fields.now ≤ 4096) }
     ensures { AnswersScriptLine result (change_said unit part (parts_after 44 fields.entry)) (change_keeps unit part (parts_after 44 fields.entry)) }
 {
     let Some(fields) = fields else {
-        return Err(LineError::Cause(ScriptCause::ScriptForm));
+        return Err(ReadError::Fault(ScriptCause::ScriptForm));
     };
     let (moment, fields) = cut_first(fields, b',');
     let Some(fields) = fields else {
-        return Err(LineError::Cause(ScriptCause::ScriptForm));
+        return Err(ReadError::Fault(ScriptCause::ScriptForm));
     };
     let (t, fields) = cut_first(fields, b',');
     let Some(fields) = fields else {
-        return Err(LineError::Cause(ScriptCause::ScriptForm));
+        return Err(ReadError::Fault(ScriptCause::ScriptForm));
     };
     let (members, more) = cut_first(fields, b',');
     if more.is_some() {
-        return Err(LineError::Cause(ScriptCause::ScriptForm));
+        return Err(ReadError::Fault(ScriptCause::ScriptForm));
     }
     if let Some(cause) = early(part) {
-        return Err(LineError::Cause(cause));
+        return Err(ReadError::Fault(cause));
     }
     match change_of_fields(alloc, unit, moment, t, members) {
         Ok(change) => Ok((Some(change), ScriptPart::Calls)),
@@ -153,7 +153,7 @@ fn fields_in<A: Allocator + Copy>(
     part: ScriptPart,
     name: &[u8],
     fields: Option<&[u8]>,
-) -> Result<(Option<ScriptItem<A>>, ScriptPart), LineError<ScriptCause>>
+) -> Result<(Option<ScriptItem<A>>, ScriptPart), ReadError<ScriptCause>>
     requires { IfSome fields (λ fields. length fields.now ≤ 4096) }
     ensures { AnswersScriptLine result (fields_said unit part name.now (parts_after 44 fields.entry)) (part_keeps unit part name.now (parts_after 44 fields.entry)) }
 {
@@ -162,17 +162,17 @@ fn fields_in<A: Allocator + Copy>(
     } else if name == b"step".as_slice() {
         match step_line(part, fields) {
             Ok(said) => Ok(said),
-            Err(cause) => Err(LineError::Cause(cause)),
+            Err(cause) => Err(ReadError::Fault(cause)),
         }
     } else if name == b"change".as_slice() {
         change_line(alloc, unit, part, fields)
     } else if name == b"poll".as_slice() {
         match poll_line(unit, part, fields) {
             Ok(said) => Ok(said),
-            Err(cause) => Err(LineError::Cause(cause)),
+            Err(cause) => Err(ReadError::Fault(cause)),
         }
     } else {
-        Err(LineError::Cause(ScriptCause::ScriptForm))
+        Err(ReadError::Fault(ScriptCause::ScriptForm))
     }
 }
 
@@ -182,7 +182,7 @@ fn all_in<A: Allocator + Copy>(
     unit: MomentUnit,
     part: ScriptPart,
     line: &[u8],
-) -> Result<(Option<ScriptItem<A>>, ScriptPart), LineError<ScriptCause>>
+) -> Result<(Option<ScriptItem<A>>, ScriptPart), ReadError<ScriptCause>>
     requires { length line.now ≤ 4096 }
     ensures { AnswersScriptLine result (all_said unit part (comma_fields line.now)) (all_keep unit part (comma_fields line.now)) }
 {
@@ -196,7 +196,7 @@ pub fn line_in<A: Allocator + Copy>(
     unit: MomentUnit,
     part: ScriptPart,
     line: &[u8],
-) -> Result<(Option<ScriptItem<A>>, ScriptPart), LineError<ScriptCause>>
+) -> Result<(Option<ScriptItem<A>>, ScriptPart), ReadError<ScriptCause>>
     requires { length line.now ≤ 4096 }
     ensures { AnswersScriptLine result (line_said unit part line.now) (line_keeps unit part line.now) }
 {

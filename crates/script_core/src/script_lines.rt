@@ -3,7 +3,7 @@ ghost use Rattle.script_core.specs.Script.{script_rules};
 
 use crate::script::{ScriptCause, ScriptItem, ScriptLines, ScriptPart};
 use crate::script_line::line_in;
-use list_core::{LineError, LineRules, MomentUnit};
+use list_core::{LineRules, MomentUnit, ReadError};
 use std::alloc::Allocator;
 
 impl<A: Allocator + Copy> LineRules<A> for ScriptLines {
@@ -18,7 +18,7 @@ impl<A: Allocator + Copy> LineRules<A> for ScriptLines {
         alloc: A,
         _spare: &mut Option<ScriptItem<A>>,
         line: &[u8],
-    ) -> Result<Option<ScriptItem<A>>, LineError<ScriptCause>> {
+    ) -> Result<Option<ScriptItem<A>>, ReadError<ScriptCause>> {
         let (unit, part) = match *self {
             ScriptLines::After(unit, part) => (unit, part),
             ScriptLines::First => match line {

@@ -5,8 +5,8 @@ use Rattle.list_core.specs.declared.event.EventKind.{EventKind}
 use Rattle.list_core.specs.declared.event.EventKind.TheVariants.{Frame}
 use Rattle.std.specs.Prelude.{IfOk, IfSome, Result}
 use Rattle.list_core.specs.ReadItems.{AnswerOf, Gave, told_as}
-use Rattle.list_core.specs.declared.read_items.ReadError.{ReadError}
-use Rattle.list_core.specs.declared.read_items.ReadError.TheVariants as error
+use Rattle.list_core.specs.declared.read_error.ReadError.{ReadError}
+use Rattle.list_core.specs.declared.read_error.ReadError.TheVariants as error
 use Rattle.unwrap_core.specs.UnwrapEvents.{UnwrapsEach, under, unwrap_answer, unwrap_event, unwrap_kind, unwrap_numbered}
 use Rattle.unwrap_core.specs.declared.unwrap.Unwrap.{Unwrap}
 use Rattle.unwrap_core.specs.Unwrapped.{tag_in}

@@ -19,8 +19,8 @@ use Rattle.capture_core.specs.declared.form.OctetOrder.TheVariants.{BigEndian, L
 use Rattle.capture_core.specs.declared.body.Said.{Said}
 use Rattle.capture_core.specs.declared.start.Start.{Start}
 use Rattle.capture_core.specs.declared.start.Start.TheVariants as start
-use Rattle.capture_core.specs.declared.packet_error.PacketError.{PacketError}
-use Rattle.capture_core.specs.declared.packet_error.PacketError.TheVariants as error
+use Rattle.list_core.specs.declared.read_error.ReadError.{ReadError}
+use Rattle.list_core.specs.declared.read_error.ReadError.TheVariants as error
 use Rattle.capture_core.specs.declared.capture_fault.CaptureFault.{CaptureFault}
 use Rattle.capture_core.specs.declared.capture_fault.CaptureCause.{CaptureCause}
 use Rattle.capture_core.specs.declared.capture_fault.CaptureCause.TheVariants as cause
@@ -110,13 +110,13 @@ next_record form z n [] = Err (ended z n)
 next_record form z n (x ∷ xs) = record_front form z n (x ∷ xs)
 
 -- how a record is told
-abbrev pub IsRecordEvent : {A : Type 0} → Told Packet → Result (Event A) PacketError → Type 0
+abbrev pub IsRecordEvent : {A : Type 0} → Told Packet → Result (Event A) (ReadError CaptureFault) → Type 0
 IsRecordEvent told (Ok e) = (p : Packet) × (told ≡ Ok p) × (e ≡ event_of p) × (p.link_type ≡ 1)
 IsRecordEvent told (Err (error.Fault f)) = told ≡ Err (Some (faulty f))
 IsRecordEvent told (Err (error.Memory m)) = told ≡ Err None
 
 -- how the next record is told, or the capture's end
-abbrev pub IsNextEvent : {A : Type 0} → Told Packet → Result (Option (Event A)) PacketError → Type 0
+abbrev pub IsNextEvent : {A : Type 0} → Told Packet → Result (Option (Event A)) (ReadError CaptureFault) → Type 0
 IsNextEvent told (Ok None) = told ≡ Err (Some finished)
 IsNextEvent told (Ok (Some e)) = (p : Packet) × (told ≡ Ok p) × (e ≡ event_of p) × (p.link_type ≡ 1)
 IsNextEvent told (Err (error.Fault f)) = told ≡ Err (Some (faulty f))
@@ -143,13 +143,13 @@ section_told (Ok order) = Ok (begins order)
 section_told (Err f) = Err (Some (faulty f))
 
 -- how a block is told
-abbrev pub IsBlockTold : {A : Type 0} → Told Block → Result (Said A) PacketError → Type 0
+abbrev pub IsBlockTold : {A : Type 0} → Told Block → Result (Said A) (ReadError CaptureFault) → Type 0
 IsBlockTold told (Ok said) = (b : Block) × (told ≡ Ok b) × IsSaidAs (Ok said) (Ok b)
 IsBlockTold told (Err (error.Fault f)) = told ≡ Err (Some (faulty f))
 IsBlockTold told (Err (error.Memory e)) = told ≡ Err None
 
 -- how the next block is told, or the capture's end
-abbrev pub IsNextBlock : {A : Type 0} → Told Block → Result (Option (Said A)) PacketError → Type 0
+abbrev pub IsNextBlock : {A : Type 0} → Told Block → Result (Option (Said A)) (ReadError CaptureFault) → Type 0
 IsNextBlock told (Ok None) = told ≡ Err (Some finished)
 IsNextBlock told (Ok (Some said)) = (b : Block) × (told ≡ Ok b) × IsSaidAs (Ok said) (Ok b)
 IsNextBlock told (Err (error.Fault f)) = told ≡ Err (Some (faulty f))

@@ -9,11 +9,13 @@ use Rattle.list_core.specs.Lines.{WhateverComes, unfinished}
 use Rattle.tally_core.specs.Tally.{count_one}
 use Rattle.capture_core.specs.Packets.{stopped}
 use Rattle.capture_core.specs.Asked.{OnlyWhile}
-use Rattle.capture_core.specs.PacketReader.{AnswersPacket, PacketState, answer_of, packets_behind, packet_number_told, things_left}
+use Rattle.capture_core.specs.PacketReader.{AnswersPacket, PacketState, packets_behind, packet_number_told, things_left}
 use Rattle.capture_core.specs.declared.body.Said.{Said}
 use Rattle.capture_core.specs.declared.body.Said.TheVariants as said
-use Rattle.capture_core.specs.declared.packet_error.PacketError.{PacketError}
-use Rattle.capture_core.specs.declared.packet_error.PacketError.TheVariants as error
+use Rattle.list_core.specs.ReadItems.{told_as}
+use Rattle.capture_core.specs.declared.capture_fault.CaptureFault.{CaptureFault}
+use Rattle.list_core.specs.declared.read_error.ReadError.{ReadError}
+use Rattle.list_core.specs.declared.read_error.ReadError.TheVariants as error
 use Rattle.capture_core.specs.declared.packet_reader.PacketReader.{PacketReader}
 use Rattle.capture_core.specs.declared.packet_reader.Progress.{Progress}
 use Rattle.capture_core.specs.declared.packet_reader.Progress.TheVariants as progress
@@ -30,13 +32,13 @@ pub record PassesOver (old new : PacketState) : Type 0 where
   pub counted : new.other_links ≡ old.other_links
 
 -- fewer headers, records or blocks may come after an event
-abbrev pub FewerAfter : {A : Type 0} → Result (Option (Event A)) PacketError → PacketState → PacketState → Type 0
+abbrev pub FewerAfter : {A : Type 0} → Result (Option (Event A)) (ReadError CaptureFault) → PacketState → PacketState → Type 0
 FewerAfter answer old new = IfOk answer (λ o. IfSome o (λ _. things_left new < things_left old))
 
 -- what a step gave: nothing, and then fewer may come, or an answer
 abbrev pub Steps : {A : Type 0} → PacketState → Step A → ℕ → PacketState → ℕ → Type 0
 Steps old Passed m new n = PassesOver old new × (things_left new < things_left old) × (n ≡ m)
-Steps old (Answered a) m new n = AnswersPacket old (answer_of n a) new × (n ≡ packet_number_told (answer_of n a) m) × FewerAfter a old new
+Steps old (Answered a) m new n = AnswersPacket old (told_as n a) new × (n ≡ packet_number_told (told_as n a) m) × FewerAfter a old new
 
 -- records or blocks are being read
 abbrev pub IsReading : Progress → Type 0

@@ -1,7 +1,7 @@
 //! The packets of a capture, in both forms.
 
-use capture_core::{CaptureCause, CaptureFault, PacketError, PacketReader};
-use list_core::{Event, EventKind, Source};
+use capture_core::{CaptureCause, CaptureFault, PacketReader};
+use list_core::{Event, EventKind, ReadError, Source};
 use std::alloc::{AllocError, Allocator, Global};
 use std::process::Abort;
 use test_support::{NEVER, RefusingAlloc, source_of};
@@ -79,7 +79,7 @@ fn next_stop<R: Source, A: Allocator + Copy>(
 ) -> Option<Option<CaptureFault>> {
     match reader.next(alloc, &mut None) {
         Ok(None) => Some(None),
-        Err(PacketError::Fault(fault)) => Some(Some(fault)),
+        Err(ReadError::Fault(fault)) => Some(Some(fault)),
         _ => None,
     }
 }
@@ -110,7 +110,7 @@ fn is_next<R: Source, A: Allocator + Copy>(
             *spare = Some(event);
             Some(is_right)
         }
-        Err(PacketError::Memory(_)) => None,
+        Err(ReadError::Memory(_)) => None,
         _ => Some(false),
     }
 }

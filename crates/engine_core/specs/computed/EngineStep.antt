@@ -1,8 +1,8 @@
 -- What one answer of a reader of items makes an engine write.
 use Rattle.std.specs.Prelude.{◌≡◌, ℕ, Bool, List, [], ◌∷◌, ◌++◌, Option, Some, None, Result, Ok, Err, true, false}
 use Rattle.std.specs.Io.KnownBytes.{Appends}
-use Rattle.list_core.specs.declared.line_rules.LineError.{LineError}
-use Rattle.list_core.specs.declared.line_rules.LineError.TheVariants as line
+use Rattle.list_core.specs.declared.read_error.ReadError.{ReadError}
+use Rattle.list_core.specs.declared.read_error.ReadError.TheVariants as read
 use Rattle.list_core.specs.ReadItems.{AnswerOf}
 use Rattle.engine_core.specs.declared.running.Next.{Next}
 use Rattle.engine_core.specs.declared.running.Next.TheVariants as next
@@ -24,10 +24,10 @@ pub record IsRefused {X C F : Type 0} (t : Allowed X C F) (before : List (ℕ ×
   pub only : (written : Result (List ℕ × Bool) C) → t.of_item before e written → written ≡ Err why
 
 -- what an engine answers for an item after others: it was taken; or refused; or memory was wanted, where whatever may be written is not empty
-abbrev pub Takes : {X C F : Type 0} → (ℕ → C → F) → Allowed X C F → (List (ℕ × X) → Type 0) → List (ℕ × X) → ℕ × X → Result Bool (LineError C) → List ℕ → List ℕ → Type 0
+abbrev pub Takes : {X C F : Type 0} → (ℕ → C → F) → Allowed X C F → (List (ℕ × X) → Type 0) → List (ℕ × X) → ℕ × X → Result Bool (ReadError C) → List ℕ → List ℕ → Type 0
 Takes refused t stands before e (Ok found) old new = ItemTaken t stands before e found old new
-Takes refused t stands before e (Err (line.Cause why)) old new = IsRefused t before e why
-Takes {C = C} refused t stands before e (Err (line.Memory m)) old new = (written : Result (List ℕ × Bool) C) → t.of_item before e written → step_text_to refused t e.0 written ≡ [] → ⊥
+Takes refused t stands before e (Err (read.Fault why)) old new = IsRefused t before e why
+Takes {C = C} refused t stands before e (Err (read.Memory m)) old new = (written : Result (List ℕ × Bool) C) → t.of_item before e written → step_text_to refused t e.0 written ≡ [] → ⊥
 
 -- an item was answered, and its text was written; the engine stands after this item too
 pub record ItemWritten {X C F : Type 0} (t : Allowed X C F) (stands : List (ℕ × X) → Type 0) (before : List (ℕ × X)) (answer : AnswerOf X F) (found : Bool) (old new : Option (List ℕ)) : Type 0 where

@@ -1,8 +1,8 @@
 -- The text of `publish` as it is computed: by how far a script has come, and what its publisher holds.
 use Rattle.std.specs.Prelude.{◌≡◌, ℕ, ◌==◌, ◌&&◌, nat_lt, nat_le, Bool, false, List, [], ◌∷◌, ◌++◌, length, Option, Some, None, Result, Ok, Err, if◌then◌else◌, ⊤, codes}
 use Rattle.std.specs.List.{list_all}
-use Rattle.list_core.specs.declared.line_rules.LineError.{LineError}
-use Rattle.list_core.specs.declared.line_rules.LineError.TheVariants as line
+use Rattle.list_core.specs.declared.read_error.ReadError.{ReadError}
+use Rattle.list_core.specs.declared.read_error.ReadError.TheVariants as read
 use Rattle.publish_core.specs.declared.fault.PublishFault.{PublishFault}
 use Rattle.publish_core.specs.declared.table.Step.{Step}
 use Rattle.publish_core.specs.Frames.{Setup, change, setup}
@@ -132,10 +132,10 @@ pub record ScriptItemTaken {A : Type 0} (g : Progress A) (i : ScriptItem A) (s :
   pub holds : Holds s (next_progress i g)
 
 -- an item was taken after this; or refused; or memory was wanted, where there is something to write
-abbrev pub TakesItem : {A : Type 0} → Progress A → ScriptItem A → Result (Unit {0}) (LineError ScriptCause) → Stage A → List ℕ → List ℕ → Type 0
+abbrev pub TakesItem : {A : Type 0} → Progress A → ScriptItem A → Result (Unit {0}) (ReadError ScriptCause) → Stage A → List ℕ → List ℕ → Type 0
 TakesItem g i (Ok u) s old new = ScriptItemTaken g i s old new
-TakesItem g i (Err (line.Cause why)) s old new = item_written i g ≡ Err why
-TakesItem {A} g i (Err (line.Memory e)) s old new = (n : ℕ) → step_text (publish_text {A = A}) n (item_written i g) ≡ [] → ⊥
+TakesItem g i (Err (read.Fault why)) s old new = item_written i g ≡ Err why
+TakesItem {A} g i (Err (read.Memory e)) s old new = (n : ℕ) → step_text (publish_text {A = A}) n (item_written i g) ≡ [] → ⊥
 
 -- a call was taken after these: its text was appended, and the publisher stands after it too
 pub record CallTaken {A : Type 0} (p : Setup A) (calls : List Call) (c : Call) (old new : List ℕ) (s : PublisherState A) : Type 0 where
@@ -145,10 +145,10 @@ pub record CallTaken {A : Type 0} (p : Setup A) (calls : List Call) (c : Call) (
   pub stands_after : PublisherStandsAfter p (calls ++ c ∷ []) s
 
 -- a call was taken after these; or refused; or memory was wanted, where there is something to write
-abbrev pub TakesCall : {A : Type 0} → Setup A → List Call → Call → Result (Unit {0}) (LineError ScriptCause) → List ℕ → List ℕ → PublisherState A → Type 0
+abbrev pub TakesCall : {A : Type 0} → Setup A → List Call → Call → Result (Unit {0}) (ReadError ScriptCause) → List ℕ → List ℕ → PublisherState A → Type 0
 TakesCall p calls c (Ok u) old new s = CallTaken p calls c old new s
-TakesCall p calls c (Err (line.Cause why)) old new s = call_written p calls c ≡ Err why
-TakesCall {A} p calls c (Err (line.Memory e)) old new s = (n : ℕ) → step_text (publish_text {A = A}) n (call_written p calls c) ≡ [] → ⊥
+TakesCall p calls c (Err (read.Fault why)) old new s = call_written p calls c ≡ Err why
+TakesCall {A} p calls c (Err (read.Memory e)) old new s = (n : ℕ) → step_text (publish_text {A = A}) n (call_written p calls c) ≡ [] → ⊥
 
 -- a publisher runs after this: it stands after some calls, and a further call is one behind them
 pub record RunsPublisher {A : Type 0} (g : Progress A) (s : PublisherState A) : Type 0 where

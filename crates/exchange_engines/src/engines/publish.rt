@@ -19,7 +19,7 @@ ghost use Rattle.script_core.specs.Script.{script_rules};
 use crate::texts::script::put_script_fault_line;
 use arrayvec::ArrayVec;
 use engine_core::{Ending, Engine, Stopped, run_to_stop};
-use list_core::{ItemFault, ItemReader, LineError, Sink, Source};
+use list_core::{ItemFault, ItemReader, ReadError, Sink, Source};
 use mms_data::{UtcTime, ValueList};
 use publish_core::{Control, MOST_STEPS, PublishFault, Publisher, Step, Table};
 use script_core::{ScriptCause, ScriptItem, ScriptLines};
@@ -115,19 +115,19 @@ fn put_change<A: Allocator>(
     moment: u64,
     t: UtcTime,
     values: ValueList<A>,
-) -> Result<(), LineError<ScriptCause>>
+) -> Result<(), ReadError<ScriptCause>>
     ensures call { (p : Setup A) (calls : List Call) → IsScriptSound p → PublisherStandsAfter p calls publisher.old →
         TakesCall p calls (call moment (Changed (change t values))) result line.old.items line.new.items publisher.new }
     ensures kept { OnErr result (take (length line.old.items) line.new.items ≡ line.old.items) }
 {
     match publisher.change_held(moment, t, values) {
         Ok(()) => {}
-        Err((fault, _values)) => return Err(LineError::Cause(cause_of(fault))),
+        Err((fault, _values)) => return Err(ReadError::Fault(cause_of(fault))),
     }
     let first = publisher.held_frame();
     match put_frame_event(line, publisher.moment(), first) {
         Ok(()) => Ok(()),
-        Err(error) => Err(LineError::Memory(error)),
+        Err(error) => Err(ReadError::Memory(error)),
     }
 }
 
@@ -136,7 +136,7 @@ fn put_poll<A: Allocator>(
     publisher: &mut Publisher<A>,
     line: &mut Vec<u8, A>,
     moment: u64,
-) -> Result<(), LineError<ScriptCause>>
+) -> Result<(), ReadError<ScriptCause>>
     ensures call { (p : Setup A) (calls : List Call) → IsScriptSound p → PublisherStandsAfter p calls publisher.old →
         TakesCall p calls (call moment Polled) result line.old.items line.new.items publisher.new }
     ensures kept { OnErr result (take (length line.old.items) line.new.items ≡ line.old.items) }
@@ -147,7 +147,7 @@ fn put_poll<A: Allocator>(
     let next = publisher.held_frame();
     match put_frame_event(line, publisher.moment(), next) {
         Ok(()) => Ok(()),
-        Err(error) => Err(LineError::Memory(error)),
+        Err(error) => Err(ReadError::Memory(error)),
     }
 }
 
@@ -156,7 +156,7 @@ fn take_control<A: Allocator>(
     stage: &mut Stage<A>,
     control: Control<A>,
     first: u32,
-) -> Result<(), LineError<ScriptCause>>
+) -> Result<(), ReadError<ScriptCause>>
     ensures { (g : Progress A) → Holds stage.old g → (text : List ℕ) → TakesItem g (SpecItem.Control control first) result stage.new text text }
 {
     match stage {
@@ -164,20 +164,20 @@ fn take_control<A: Allocator>(
             *stage = Stage::Setup(control, first, ArrayVec::new());
             Ok(())
         }
-        _ => Err(LineError::Cause(ScriptCause::ScriptForm)),
+        _ => Err(ReadError::Fault(ScriptCause::ScriptForm)),
     }
 }
 
 // Takes a step of the table.
-fn take_step<A: Allocator>(stage: &mut Stage<A>, step: Step) -> Result<(), LineError<ScriptCause>>
+fn take_step<A: Allocator>(stage: &mut Stage<A>, step: Step) -> Result<(), ReadError<ScriptCause>>
     ensures { (g : Progress A) → Holds stage.old g → (text : List ℕ) → TakesItem g (SpecItem.Step step) result stage.new text text }
 {
     match stage {
         Stage::Setup(_, _, steps) => match steps.try_push(step) {
             Ok(()) => Ok(()),
-            Err(_) => Err(LineError::Cause(ScriptCause::StepCount)),
+            Err(_) => Err(ReadError::Fault(ScriptCause::StepCount)),
         },
-        _ => Err(LineError::Cause(ScriptCause::ScriptForm)),
+        _ => Err(ReadError::Fault(ScriptCause::ScriptForm)),
     }
 }
 
@@ -188,16 +188,16 @@ fn take_change<A: Allocator>(
     moment: u64,
     t: UtcTime,
     values: ValueList<A>,
-) -> Result<(), LineError<ScriptCause>>
+) -> Result<(), ReadError<ScriptCause>>
     ensures item { (g : Progress A) → Holds stage.old g → TakesItem g (SpecItem.Change moment t values) result stage.new line.old.items line.new.items }
     ensures kept { OnErr result (take (length line.old.items) line.new.items ≡ line.old.items) }
 {
     if let Err(cause) = begin(stage) {
-        return Err(LineError::Cause(cause));
+        return Err(ReadError::Fault(cause));
     }
     match stage {
         Stage::Running(publisher) => put_change(publisher, line, moment, t, values),
-        _ => Err(LineError::Cause(ScriptCause::ScriptForm)),
+        _ => Err(ReadError::Fault(ScriptCause::ScriptForm)),
     }
 }
 
@@ -206,16 +206,16 @@ fn take_poll<A: Allocator>(
     stage: &mut Stage<A>,
     line: &mut Vec<u8, A>,
     moment: u64,
-) -> Result<(), LineError<ScriptCause>>
+) -> Result<(), ReadError<ScriptCause>>
     ensures item { (g : Progress A) → Holds stage.old g → TakesItem g (SpecItem.Poll moment) result stage.new line.old.items line.new.items }
     ensures kept { OnErr result (take (length line.old.items) line.new.items ≡ line.old.items) }
 {
     if let Err(cause) = begin(stage) {
-        return Err(LineError::Cause(cause));
+        return Err(ReadError::Fault(cause));
     }
     match stage {
         Stage::Running(publisher) => put_poll(publisher, line, moment),
-        _ => Err(LineError::Cause(ScriptCause::ScriptForm)),
+        _ => Err(ReadError::Fault(ScriptCause::ScriptForm)),
     }
 }
 
@@ -224,7 +224,7 @@ fn take_item<A: Allocator>(
     stage: &mut Stage<A>,
     line: &mut Vec<u8, A>,
     item: ScriptItem<A>,
-) -> Result<(), LineError<ScriptCause>>
+) -> Result<(), ReadError<ScriptCause>>
     ensures item { (g : Progress A) → Holds stage.old g → TakesItem g item result stage.new line.old.items line.new.items }
     ensures kept { OnErr result (take (length line.old.items) line.new.items ≡ line.old.items) }
 {
@@ -255,7 +255,7 @@ impl<A: Allocator> Engine<A, ItemFault<ScriptCause>> for Publishing<A> {
         _number: u64,
         item: ScriptItem<A>,
         _spare: &mut Option<ScriptItem<A>>,
-    ) -> Result<bool, LineError<ScriptCause>> {
+    ) -> Result<bool, ReadError<ScriptCause>> {
         match take_item(&mut self.stage, line, item) {
             Ok(()) => Ok(false),
             Err(error) => Err(error),

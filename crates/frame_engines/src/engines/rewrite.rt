@@ -24,7 +24,7 @@ use arrayvec::ArrayVec;
 use engine_core::{Ending, Engine, Stopped, run_to_stop};
 use frame_core::{FrameView, encode_view, see_frame};
 use list_core::{
-    Event, EventKind, EventLines, ItemFault, ItemReader, LineError, ListCause, Sink, Source,
+    Event, EventKind, EventLines, ItemFault, ItemReader, ListCause, ReadError, Sink, Source,
     fault_of_list,
 };
 use std::alloc::{AllocError, Allocator};
@@ -153,12 +153,12 @@ impl<A: Allocator> Engine<A, ItemFault<ListCause>> for RewriteText {
         _number: u64,
         event: Event<A>,
         spare: &mut Option<Event<A>>,
-    ) -> Result<bool, LineError<ListCause>> {
+    ) -> Result<bool, ReadError<ListCause>> {
         let put = put_rewritten_event(line, &event);
         *spare = Some(event);
         match put {
             Ok(kept) => Ok(kept),
-            Err(error) => Err(LineError::Memory(error)),
+            Err(error) => Err(ReadError::Memory(error)),
         }
     }
 

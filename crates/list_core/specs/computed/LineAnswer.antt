@@ -3,17 +3,17 @@ use Rattle.std.specs.Prelude.{◌≡◌, ◌<◌, ℕ, Bool, true, List, length,
 use Rattle.std.specs.Borrow.{Bor}
 use Rattle.list_core.specs.declared.event.Event.{Event}
 use Rattle.list_core.specs.declared.list_fault.ListCause.{ListCause}
-use Rattle.list_core.specs.declared.line_rules.LineError.{LineError}
-use Rattle.list_core.specs.declared.line_rules.LineError.TheVariants as line
+use Rattle.list_core.specs.declared.read_error.ReadError.{ReadError}
+use Rattle.list_core.specs.declared.read_error.ReadError.TheVariants as read
 use Rattle.list_core.specs.declared.event_lines.MomentUnit.{MomentUnit}
 use Rattle.list_core.specs.Cuts.{parts_after}
 use Rattle.list_core.specs.EventLine.{fields, moment_of}
 
 -- the answer is what the line says, or memory was wanted where the line has something to keep
-abbrev pub Answers : {A : Type 0} → Result (Option (Event A)) (LineError ListCause) → Result (Option (Event A)) ListCause → Bool → Type 0
+abbrev pub Answers : {A : Type 0} → Result (Option (Event A)) (ReadError ListCause) → Result (Option (Event A)) ListCause → Bool → Type 0
 Answers (Ok event) said keeps = said ≡ Ok event
-Answers (Err (line.Cause why)) said keeps = said ≡ Err why
-Answers (Err (line.Memory e)) said keeps = keeps ≡ true
+Answers (Err (read.Fault why)) said keeps = said ≡ Err why
+Answers (Err (read.Memory e)) said keeps = keeps ≡ true
 
 -- these octets were read where they are written; or memory was wanted, where some are
 abbrev pub OctetsAreRead : {E : Type 0} → Result (List ℕ) E → Option (List ℕ) → Type 0

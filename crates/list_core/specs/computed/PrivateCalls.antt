@@ -9,7 +9,8 @@ use Rattle.list_core.specs.declared.item_reader.Tried.TheVariants as tried
 use Rattle.list_core.specs.Device.{OnlyOpen}
 use Rattle.list_core.specs.Lines.{StartsLine, WhateverComes}
 use Rattle.list_core.specs.Items.{Rules, put_items}
-use Rattle.list_core.specs.ItemReader.{ReaderState, listed, ListsAs, with_given, answer_of, item_number_told, OnlySkipped, AnswersItem}
+use Rattle.list_core.specs.ReadItems.{told_as}
+use Rattle.list_core.specs.ItemReader.{ReaderState, listed, ListsAs, with_given, item_number_told, OnlySkipped, AnswersItem}
 
 -- what stands first in s: a line of so many octets, the end, or a fault in the next line
 abbrev pub StandsFirst : Stream → Result (Option ℕ) ListFault → Type 0
@@ -53,4 +54,4 @@ pub record TakesItems {S X C : Type 0} (r : Rules S X C) (old : ReaderState S) (
 -- what one line gives: nothing, and then it was taken off, or an answer
 abbrev pub Tries : {S X C : Type 0} → Rules S X C → ReaderState S → ℕ → Tried X C → ReaderState S → ℕ → Type 0
 Tries r old m tried.Skipped new n = SkipsLines r old new × (new.taken ≡ old.taken + 1) × (new.taken ≤ 1000000) × (n ≡ m)
-Tries r old m (tried.Answered a) new n = AnswersItem r old (answer_of n a) new × (n ≡ item_number_told (answer_of n a) m)
+Tries r old m (tried.Answered a) new n = AnswersItem r old (told_as n a) new × (n ≡ item_number_told (told_as n a) m)

@@ -2,8 +2,8 @@
 use Rattle.std.specs.Prelude.{◌≡◌, ℕ, ◌==◌, Bool, true, false, List, [], ◌∷◌, Option, None, Result, Ok, Err, if◌then◌else◌, codes}
 use Rattle.std.specs.Str.{bytes_eq}
 use Rattle.list_core.specs.EventLine.{is_version}
-use Rattle.list_core.specs.declared.line_rules.LineError.{LineError}
-use Rattle.list_core.specs.declared.line_rules.LineError.TheVariants as line
+use Rattle.list_core.specs.declared.read_error.ReadError.{ReadError}
+use Rattle.list_core.specs.declared.read_error.ReadError.TheVariants as read
 use Rattle.list_core.specs.declared.event_lines.MomentUnit.{MomentUnit}
 use Rattle.list_core.specs.declared.event_lines.MomentUnit.TheVariants.{Milliseconds, Microseconds}
 use Rattle.block_core.specs.Commas.{comma_fields}
@@ -70,7 +70,7 @@ script_keeps First line = line_keeps Milliseconds part.Control line
 script_keeps (After unit p) line = line_keeps unit p line
 
 -- the answer is what the line says, or memory was wanted where the line has something to keep
-abbrev pub AnswersScriptLine : {X : Type 0} → Result X (LineError ScriptCause) → Result X ScriptCause → Bool → Type 0
+abbrev pub AnswersScriptLine : {X : Type 0} → Result X (ReadError ScriptCause) → Result X ScriptCause → Bool → Type 0
 AnswersScriptLine (Ok x) said keeps = said ≡ Ok x
-AnswersScriptLine (Err (line.Cause why)) said keeps = said ≡ Err why
-AnswersScriptLine (Err (line.Memory e)) said keeps = keeps ≡ true
+AnswersScriptLine (Err (read.Fault why)) said keeps = said ≡ Err why
+AnswersScriptLine (Err (read.Memory e)) said keeps = keeps ≡ true

@@ -92,19 +92,19 @@ returns-in-Err-Memory g c =
       refl,
     )
 
-pub returns-in-Err-Cause : goal.returns-in-Err-Cause
-returns-in-Err-Cause g c =
+pub returns-in-Err-Fault : goal.returns-in-Err-Fault
+returns-in-Err-Fault g c =
     let e = rw c.in-Ok-Some.field-0-is at c.in-Ok-Some.ensures in
-    let said = rw c.in-Err-Cause.field-0-is at c.in-Err-Cause.ensures in
+    let said = rw c.in-Err-Fault.field-0-is at c.in-Err-Fault.ensures in
     let p = e.given in
     let s = c.args.self.now.rules in
     let mid = reader_state (stream g.R.Source.left g.R.Source.ending c.fill.new.self) s in
     let rest = drop (c.in-Ok-Some.size + 1) mid.held in
-    let number = c.next_number-self-in-Err-Cause.ensures in (
+    let number = c.next_number-self-in-Err-Fault.ensures in (
       tells _ _ mid _ _ p.0 p.1 e.taken refl p.2 (Gives-from_Consumes _ _ _ p.3) p.4 refl refl e.bounded (omega arith, number) refl refl tt
           (λ more z f. (
-            listing-line _ s mid.ending mid.taken mid.held _ rest (Err c.in-Err-Cause.cause) (ap (g.G.LineRules.rules.said s) (sym c.front.ensures.line) ∙ said.0) e.front.3 more z f
-                ∙ ap (λ k. stops (faulty (fault.Line k c.in-Err-Cause.cause))) (sym number),
+            listing-line _ s mid.ending mid.taken mid.held _ rest (Err c.in-Err-Fault.cause) (ap (g.G.LineRules.rules.said s) (sym c.front.ensures.line) ∙ said.0) e.front.3 more z f
+                ∙ ap (λ k. stops (faulty (fault.Line k c.in-Err-Fault.cause))) (sym number),
             ap (λ t. listing g.G.LineRules.rules t z mid.taken (mid.held ++ more)) said.1,
           )),
       refl,
