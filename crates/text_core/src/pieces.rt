@@ -127,10 +127,13 @@ pub fn put_short_hexadecimal<A: Allocator>(
     out.extend_from_slice(&block_digits(&block)[..2 * octets.len()])
 }
 
-/// Appends octets in lower case hexadecimal.
+/// Appends octets in lower case hexadecimal. Two octets, as smpMod has, are written as a count that is known.
 pub fn put_hexadecimal<A: Allocator>(out: &mut Vec<u8, A>, octets: &[u8]) -> Result<(), AllocError>
     ensures { AppendsText result out.old.items out.new.items (encode_lower octets.now) }
 {
+    if let [first, last] = octets {
+        return put_short_hexadecimal(out, &[*first, *last]);
+    }
     let mut others = octets;
     'blocks: while let Some((block, rest)) = others.split_first_chunk::<BLOCK>() {
         out.extend_from_slice(&block_digits(block))?;

@@ -23,4 +23,4 @@ returns-then-is_empty g c =
 
 pub returns : goal.returns
 returns g c =
-    rest_appended c.put_short_hexadecimal.result _ c.blocks-2.out.items c.put_short_hexadecimal.new.out.items _ _ c.blocks-2.invariant.kept c.put_short_hexadecimal.ensures c.blocks-2.invariant.so_far
+    rest_appended c.put_short_hexadecimal-2.result _ c.blocks-2.out.items c.put_short_hexadecimal-2.new.out.items _ _ c.blocks-2.invariant.kept c.put_short_hexadecimal-2.ensures c.blocks-2.invariant.so_far
