@@ -152,19 +152,13 @@ fn options_by_name(options: Options, is_capture: bool) -> Options
     ensures capture { result.is_capture ≡ (options.is_capture || is_capture) }
     ensures passes_over { result.skips_other ≡ not options.is_raw }
     ensures unwraps { result.unwraps ≡ not options.is_raw }
-    ensures raw { result.is_raw ≡ options.is_raw }
-    ensures writes { result.writes ≡ options.writes }
-    ensures changes { result.changes_alone ≡ options.changes_alone }
-    ensures simulates { result.simulates ≡ options.simulates }
+    ensures others { result ≡ record options { is_capture = result.is_capture; skips_other = result.skips_other; unwraps = result.unwraps } }
 {
     Options {
         is_capture: options.is_capture || is_capture,
         skips_other: !options.is_raw,
         unwraps: !options.is_raw,
-        is_raw: options.is_raw,
-        writes: options.writes,
-        changes_alone: options.changes_alone,
-        simulates: options.simulates,
+        ..options
     }
 }
 
@@ -174,20 +168,6 @@ fn answer_unread(rt: &HostRuntime, command: &str, file: Option<&str>, error: io:
     let file = file.unwrap_or("-");
     let _ = eprintln!(Console::of(rt); "goose {command}: {}", Unread { file, error });
     status(&Ending::ReadFault)
-}
-
-// Says that an option excludes others, and answers the exit status.
-#[inline(never)]
-fn answer_raw(rt: &HostRuntime, options: Options) -> u8 {
-    let other = if options.skips_other {
-        "--skip-other"
-    } else {
-        "--unwrap"
-    };
-    let _ = eprintln!(Console::of(rt);
-        "error: the argument '--raw' cannot be used with '{other}'\n\nUsage: goose <COMMAND> [OPTIONS]\n\nFor more information, try '--help'."
-    );
-    2
 }
 
 // Says on a terminal what is awaited.
@@ -227,14 +207,15 @@ fn failure_of<W: io::Write + Drop>(output: &Output<W>, seen: &Seen) -> Option<Fa
 // How many blocks of which no frame came are told one by one.
 const MOST_UNHEARD: usize = 16;
 
-// A flag for each block of a replay, to be set where a frame of it comes; none where memory is refused, and then nothing is
-// said of them.
-fn flags_for(rt: &HostRuntime, task: &Task) -> Vec<bool> {
-    let mut flags = Vec::new(rt.alloc());
+// What a task notes before its first event: a flag for each block of a replay, to be set where a frame of it comes; none where
+// memory is refused, and then nothing is said of them.
+fn notes_for(rt: &HostRuntime, task: &Task) -> Notes {
+    let mut heard = Vec::new(rt.alloc());
     if let Task::Replay(blocks) = task {
-        let _ = flags.resize(blocks.len(), false);
+        let _ = heard.resize(blocks.len(), false);
     }
-    flags
+    let unjudged = Unjudged::new(rt.alloc());
+    Notes { heard, unjudged }
 }
 
 // The text of the block at a position. The texts stand behind the name of the command, with options between them, of which `-r`
@@ -282,16 +263,18 @@ fn say_unheard(rt: &HostRuntime, words: &[&str], heard: &[bool]) {
 
 // Says which frames of other protocols were passed over, if any were.
 #[inline(never)]
-fn say_passed(rt: &HostRuntime, command: &str, passed: &KindTally) {
-    if let Some(passed) = passed_frames(passed) {
+fn say_passed(rt: &HostRuntime, command: &str, passed: &Option<KindTally>) {
+    let Some(tally) = passed else { return };
+    if let Some(passed) = passed_frames(tally) {
         let _ = eprintln!(Console::of(rt); "goose {command}: {passed}");
     }
 }
 
 // Says which packets were not captured on Ethernet, if any were not.
 #[inline(never)]
-fn say_links(rt: &HostRuntime, command: &str, links: &KindTally) {
-    if let Some(links) = packets_of_other_links(links) {
+fn say_links(rt: &HostRuntime, command: &str, links: &Option<KindTally>) {
+    let Some(tally) = links else { return };
+    if let Some(links) = packets_of_other_links(tally) {
         let _ = eprintln!(Console::of(rt); "goose {command}: {links}");
     }
 }
@@ -393,9 +376,6 @@ fn run(rt: &HostRuntime, request: Request<'_>, words: &[&str]) -> u8
         options,
         file,
     } = request;
-    if options.is_raw && (options.skips_other || options.unwraps) {
-        return answer_raw(rt, options);
-    }
     let command = task.name();
     let found = if is_unnamed(&task) {
         match found_in(rt, file, options) {
@@ -440,10 +420,7 @@ fn run_over(
     };
     let command = task.name();
     let intake = intake_of(&task, options);
-    let mut notes = Notes {
-        heard: flags_for(rt, &task),
-        unjudged: Unjudged::new(rt.alloc()),
-    };
+    let mut notes = notes_for(rt, &task);
     let mut writer = ToWrite::new(&output);
     let reader = FromRead::new(input);
     let Performed {
@@ -462,12 +439,8 @@ fn run_over(
     if !is_written || ending == Ending::ReadFault {
         return answer_failure(rt, failure);
     }
-    if let Some(passed) = &passed {
-        say_passed(rt, command, passed);
-    }
-    if let Some(links) = &other_links {
-        say_links(rt, command, links);
-    }
+    say_passed(rt, command, &passed);
+    say_links(rt, command, &other_links);
     say_unjudged(rt, command, &notes.unjudged);
     match told {
         Some(told) => say_stop(rt, command, told, intake, seen.into_head().as_slice()),

@@ -1,5 +1,5 @@
 -- A task over the events of a list, asked for without options, leaves what the call of its command over a list does. No clause cites it.
-use Rattle.std.proofs.Common.{Option, Some, None, Ok, Err, ◌≡◌, ℕ, Bool, false, List, [], ◌∷◌, inl, inr, ap, sym, ◌∙◌, refl, subst}
+use Rattle.std.proofs.Common.{Option, Some, None, Ok, Err, ◌≡◌, ℕ, Bool, false, List, [], ◌∷◌, inl, inr, ap, ap₂, sym, ◌∙◌, refl, subst}
 use Rattle.std.specs.Prelude.{option_map}
 use Rattle.std.specs.Global.{Global}
 use Rattle.list_core.specs.declared.device.InputEnd.{InputEnd}
@@ -56,54 +56,55 @@ WroteBefore check end told = Tells of_list (EventsLeft check_text end) told
 WroteBefore list_blocks end told = Tells of_list (λ fault. OfKind (IsBlocksText {A = Global}) (λ t. EventsLeft t end fault)) told
 WroteBefore (replay blocks) end told = Tells (of_stop of_list) (λ by. ReplayWritesTo blocks end.ending by end.source end.read end.old end.new) told
 WroteBefore (watch period id) end told = Tells of_list (λ fault. OfKind (IsWatchText {A = Global} period id) (λ t. EventsLeft t end fault)) told
-WroteBefore (losses periods) end told = InputTells false false false (styles.Lines Lines) (plain_work (losses periods)) end told
+WroteBefore (losses periods) end told = InputTells false plain (styles.Lines Lines) (plain_work (losses periods)) end told
 WroteBefore rewrite end told = RequestWrites (plain) rewrite end told
 WroteBefore publish end told = RequestWrites (plain) publish end told
 WroteBefore import end told = RequestWrites (plain) import end told
 
 -- ---- an input of which nothing is made
 
-none_made : {F : Type 0} (answer : AnswerOf (Event Global) F) → answer ≡ answer_made (unwrap_where false) answer
-none_made (Ok (Some e)) = refl
-none_made (Ok None) = refl
-none_made (Err f) = refl
+module _ (make : Event Global → Event Global) (none : (e : Event Global) → make e ≡ e) where
+  none_made : {F : Type 0} (answer : AnswerOf (Event Global) F) → answer ≡ answer_made make answer
+  none_made {F} (Ok (Some e)) = ap (λ (x : Event Global). let o : AnswerOf (Event Global) F = Ok (Some (e.0, x)) in o) (sym (none e.1))
+  none_made (Ok None) = refl
+  none_made (Err f) = refl
 
-each_same : (items : List (ℕ × Event Global)) → each_made (unwrap_where false) items ≡ items
-each_same [] = refl
-each_same (e ∷ es) = ap (λ (l : List (ℕ × Event Global)). e ∷ l) (each_same es)
+  each_same : (items : List (ℕ × Event Global)) → each_made make items ≡ items
+  each_same [] = refl
+  each_same (e ∷ es) = ap₂ (λ (x : Event Global) (l : List (ℕ × Event Global)). (e.0, x) ∷ l) (none e.1) (each_same es)
 
-module _ {C F : Type 0} (input : Input (Event Global) C F) where
-  all_same : (l : Numbered (Event Global) F) → with_each (unwrap_where false) l ≡ l
-  all_same l = ap (λ (es : List (ℕ × Event Global)). record { items = es; stop = l.stop }) (each_same l.items)
+  module _ {C F : Type 0} (input : Input (Event Global) C F) where
+    all_same : (l : Numbered (Event Global) F) → with_each make l ≡ l
+    all_same l = ap (λ (es : List (ℕ × Event Global)). record { items = es; stop = l.stop }) (each_same l.items)
 
-  read_same : (z : InputEnd) (read : List ℕ) (items : List (ℕ × Event Global)) (answer : AnswerOf (Event Global) F) → IsRead (made (unwrap_where false) input) z read items answer → IsRead input z read items answer
-  read_same z read items answer r =
-      let s = r.stands in
-      let same_items = sym (each_same s.said) ∙ sym s.are_made in
-      let same_answer = none_made s.told ∙ sym s.is_made in
-      record {
-        onward = r.onward;
-        says = sym (all_same (input.says z read)) ∙ r.says;
-        tells = r.tells;
-        stands = subst (λ (o : AnswerOf (Event Global) F). input.stands z read items o) same_answer (subst (λ (es : List (ℕ × Event Global)). input.stands z read es s.told) same_items s.stands);
-      }
+    read_same : (z : InputEnd) (read : List ℕ) (items : List (ℕ × Event Global)) (answer : AnswerOf (Event Global) F) → IsRead (made make input) z read items answer → IsRead input z read items answer
+    read_same z read items answer r =
+        let s = r.stands in
+        let same_items = sym (each_same s.said) ∙ sym s.are_made in
+        let same_answer = none_made s.told ∙ sym s.is_made in
+        record {
+          onward = r.onward;
+          says = sym (all_same (input.says z read)) ∙ r.says;
+          tells = r.tells;
+          stands = subst (λ (o : AnswerOf (Event Global) F). input.stands z read items o) same_answer (subst (λ (es : List (ℕ × Event Global)). input.stands z read es s.told) same_items s.stands);
+        }
 
-  left_same : (t : Allowed (Event Global) C F) (ending : Ending) (fault : Option F) (z : InputEnd) (read : List ℕ) (old new : Option (List ℕ)) → Leaves (made (unwrap_where false) input) t ending fault z read old new → Leaves input t ending fault z read old new
-  left_same t ending fault z read old new (inl w) = inl w
-  left_same t ending fault z read old new (inr run) = inr (run_as input.faults ending fault old new t run (read_same z read run.items run.answer run.read))
+    left_same : (t : Allowed (Event Global) C F) (ending : Ending) (fault : Option F) (z : InputEnd) (read : List ℕ) (old new : Option (List ℕ)) → Leaves (made make input) t ending fault z read old new → Leaves input t ending fault z read old new
+    left_same t ending fault z read old new (inl w) = inl w
+    left_same t ending fault z read old new (inr run) = inr (run_as input.faults ending fault old new t run (read_same z read run.items run.answer run.read))
 
 -- ---- so it is
 
 -- a run over the events of a list leaves a text that is as what may be written
 text_left : (end : Ended) (fault : Option (ItemFault ListCause)) (allows : EventAllows Global) (t : Text (Event Global) ListCause) → Alike (over_in (styles.Lines Lines) (λ form. allows) list_last) (exactly t) →
-    Leaves (list_events false false) (over_in (styles.Lines Lines) (λ form. allows) list_last) end.ending fault end.source end.read end.old end.new → EventsLeft t end fault
+    Leaves (list_events plain) (over_in (styles.Lines Lines) (λ form. allows) list_last) end.ending fault end.source end.read end.old end.new → EventsLeft t end fault
 text_left end fault allows t same w =
     let input : Input (Event Global) ListCause (ItemFault ListCause) = list_input event_rules First in
     let may : Allowed (Event Global) ListCause (ItemFault ListCause) = over_in (styles.Lines Lines) (λ form. allows) list_last in
-    runs_alike input.faults end.ending fault end.old end.new may (exactly t) same (left_same input may end.ending fault end.source end.read end.old end.new w)
+    runs_alike input.faults end.ending fault end.old end.new may (exactly t) same (left_same (unwrap_where false) (λ e. refl) input may end.ending fault end.source end.read end.old end.new w)
 
 -- the same of a text that is fixed
-fixed_left : (end : Ended) (fault : Option (ItemFault ListCause)) (text : EventText Global) → Leaves (list_events false false) (over_in (styles.Lines Lines) (λ form. exactly_event text) list_last) end.ending fault end.source end.read end.old end.new →
+fixed_left : (end : Ended) (fault : Option (ItemFault ListCause)) (text : EventText Global) → Leaves (list_events plain) (over_in (styles.Lines Lines) (λ form. exactly_event text) list_last) end.ending fault end.source end.read end.old end.new →
     EventsLeft (over_events text list_last.line) end fault
 fixed_left end fault text w = text_left end fault (exactly_event text) (over_events text list_last.line) (exactly_over text list_last.line) w
 

@@ -1,30 +1,26 @@
 -- What a task over a reader of events leaves of the input that it reads.
-use Rattle.std.proofs.Common.{Option, Some, None, ◌≡◌, ℕ, Bool, true, false, List, [], inl, inr, sym, ◌∙◌, refl, subst}
+use Rattle.std.proofs.Common.{Option, Some, None, ◌≡◌, ℕ, Bool, true, false, List, [], inl, inr, sym, refl, subst}
 use Rattle.std.specs.Prelude.{option_map}
 use Rattle.std.specs.Global.{Global}
 use Rattle.list_core.specs.declared.device.InputEnd.{InputEnd}
 use Rattle.list_core.specs.declared.device.InputEnd.TheVariants.{Failed, Open}
 use Rattle.list_core.specs.declared.event.Event.{Event}
 use Rattle.list_core.specs.declared.event_lines.EventLines.TheVariants.{First}
-use Rattle.list_core.specs.declared.line_rules.ItemFault.{ItemFault}
-use Rattle.list_core.specs.declared.list_fault.ListCause.{ListCause}
 use Rattle.list_core.specs.Device.{GivesOctets}
 use Rattle.list_core.specs.EventLine.{event_rules}
 use Rattle.list_core.specs.ReadItems.{AnswerOf}
-use Rattle.capture_core.specs.declared.capture_fault.CaptureCause.{CaptureCause}
-use Rattle.capture_core.specs.declared.capture_fault.CaptureFault.{CaptureFault}
 use Rattle.object_core.specs.declared.counted.Form.{Form}
 use Rattle.engine_core.specs.declared.ending.Ending.{Ending}
 use Rattle.engine_core.specs.declared.ending.Ending.TheVariants.{ReadFault}
 use Rattle.engine_core.specs.declared.stopped.Stopped.{Stopped}
 use Rattle.engine_core.specs.declared.style.Style.{Style}
-use Rattle.engine_core.specs.CaptureRun.{capture_faults, capture_input}
+use Rattle.engine_core.specs.CaptureRun.{capture_input}
 use Rattle.engine_core.specs.EventsText.{EventAllows, FaultText, over_in}
 use Rattle.engine_core.specs.Input.{Faults, GaveThen, Input, IsRead, Reader}
-use Rattle.engine_core.specs.Run.{list_faults, list_input}
+use Rattle.engine_core.specs.Run.{list_input}
 use Rattle.engine_core.specs.RunOver.{LeavesSo, stopped_at}
 use Rattle.engine_core.proofs.InputRuns.{GivenSo, input_run, none_given}
-use Rattle.engine_core.proofs.ReadFaults.{Blames, capture_blames, list_blames, source_failed}
+use Rattle.engine_core.proofs.ReadFaults.{Blames, source_failed}
 use Rattle.exchange_engines.specs.declared.engines.replay.ReplayManner.{ReplayManner}
 use Rattle.exchange_engines.specs.declared.engines.replay.ReplayStop.{ReplayStop}
 use Rattle.exchange_engines.specs.declared.engines.replay.ReplayStop.TheVariants as why
@@ -35,7 +31,7 @@ use Rattle.loss_engine.proofs.LossRuns.{losses_failed, losses_run}
 use Rattle.task_engine.specs.declared.stop.Stop.{Stop}
 use Rattle.task_engine.specs.declared.stop.Stop.TheVariants as stop
 use Rattle.task_engine.specs.EventTasks.{Ended, Left, OverWrites, StopsBy, TaskLeaves, TextLeft, Work, allowed_by, ended, left_of, left_over, manner}
-use Rattle.task_engine.specs.InputText.{EventsTell, InputTells, capture_events, capture_last, list_events, list_last, looked_at, of_list, of_stop}
+use Rattle.task_engine.specs.InputText.{EventsTell, InputTells, capture_last, list_last, of_list, of_stop, looked_where}
 use Rattle.task_engine.specs.RequestText.{EventsWrite, style_of}
 
 -- what is left so, a task leaves so too
@@ -111,56 +107,18 @@ events_failed of style work input last end told blames t = task_any style (left_
     ])
     (λ u no e. absurd (no e)) work.manner work.asked t.1
 
--- ---- lists and captures
-
--- the faults of an input stay, whatever is made of its events
-capture_same : (unwraps skips : Bool) → capture_faults ≡ (capture_events unwraps skips).faults
-capture_same unwraps true = refl
-capture_same unwraps false = refl
-
-list_same : (unwraps skips : Bool) → list_faults ≡ (list_events unwraps skips).faults
-list_same unwraps true = refl
-list_same unwraps false = refl
-
--- a task over a reader of a capture, of which this is looked at
-pub capture_tells : {I : Type 0} (unwraps skips : Bool) (left : I → Option (List ℕ)) (source : I → InputEnd) (reader : Reader I (Event Global) CaptureCause CaptureFault) → reader.faults ≡ capture_faults →
-    (style : Style) (work : Work) (start : I) (stopped : Stopped I (ReplayStop CaptureFault)) (old new : Option (List ℕ)) → source start ≡ Open →
-    ((items : List (ℕ × Event Global)) (answer : AnswerOf (Event Global) CaptureFault) → GaveThen reader start stopped.reader items answer → GivenSo (left start) (left stopped.reader) (λ given. IsRead (capture_events unwraps skips) (source stopped.reader) given items answer)) →
-    OverWrites style work reader capture_last start stopped old new →
-    GivenSo (left start) (left stopped.reader) (λ given. EventsTell stop.Packet style work (capture_events unwraps skips) capture_last (ended stopped.ending (source stopped.reader) given old new) (option_map (of_stop stop.Packet) stopped.fault))
-capture_tells unwraps skips left source reader same style work start stopped old new is reads w =
-    let r = over_input reader (capture_events unwraps skips) (same ∙ capture_same unwraps skips) left source capture_last start stopped old new is reads style work w in
-    (r.0, r.1, (stopped.fault, r.2, refl))
-
--- a task over a reader of a list
-pub list_tells : {I : Type 0} (unwraps skips : Bool) (left : I → Option (List ℕ)) (source : I → InputEnd) (reader : Reader I (Event Global) ListCause (ItemFault ListCause)) → reader.faults ≡ list_faults →
-    (style : Style) (work : Work) (start : I) (stopped : Stopped I (ReplayStop (ItemFault ListCause))) (old new : Option (List ℕ)) → source start ≡ Open →
-    ((items : List (ℕ × Event Global)) (answer : AnswerOf (Event Global) (ItemFault ListCause)) → GaveThen reader start stopped.reader items answer → GivenSo (left start) (left stopped.reader) (λ given. IsRead (list_events unwraps skips) (source stopped.reader) given items answer)) →
-    OverWrites style work reader list_last start stopped old new →
-    GivenSo (left start) (left stopped.reader) (λ given. EventsTell of_list style work (list_events unwraps skips) list_last (ended stopped.ending (source stopped.reader) given old new) (option_map (of_stop of_list) stopped.fault))
-list_tells unwraps skips left source reader same style work start stopped old new is reads w =
-    let r = over_input reader (list_events unwraps skips) (same ∙ list_same unwraps skips) left source list_last start stopped old new is reads style work w in
-    (r.0, r.1, (stopped.fault, r.2, refl))
-
--- a failed read is blamed on the source, whatever is made of the events
-looked_blames : {C F : Type 0} (unwraps skips : Bool) (input : Input (Event Global) C F) → Blames input → Blames (looked_at unwraps skips input)
-looked_blames unwraps true input blames = blames
-looked_blames unwraps false input blames = blames
-
-pub capture_failed : (unwraps skips : Bool) (style : Style) (work : Work) (end : Ended) (told : Option Stop) → InputTells true unwraps skips style work end told → end.ending ≡ ReadFault → end.source ≡ Failed
-capture_failed unwraps skips style work end told t = events_failed stop.Packet style work (capture_events unwraps skips) capture_last end told (looked_blames unwraps skips capture_input (capture_blames Global)) t
-
-pub list_failed : (unwraps skips : Bool) (style : Style) (work : Work) (end : Ended) (told : Option Stop) → InputTells false unwraps skips style work end told → end.ending ≡ ReadFault → end.source ≡ Failed
-list_failed unwraps skips style work end told t = events_failed of_list style work (list_events unwraps skips) list_last end told (looked_blames unwraps skips (list_input event_rules First) (list_blames event_rules First)) t
-
 -- ---- options
 
--- what is left by options, whose style, input, and what is looked at are these
-pub by_options : (options : Options) (style : Style) (is_capture skips : Bool) (work : Work) (end : Ended) (told : Option Stop) → style ≡ style_of options → options.is_capture ≡ is_capture → options.skips_other ≡ skips →
-    InputTells is_capture options.unwraps skips style work end told → EventsWrite options work end told
-by_options options style is_capture skips work end told s i k w =
-    subst (λ (x : Style). InputTells options.is_capture options.unwraps options.skips_other x work end told) s
-    (subst (λ (b : Bool). InputTells b options.unwraps options.skips_other style work end told) (sym i) (subst (λ (b : Bool). InputTells is_capture options.unwraps b style work end told) (sym k) w))
+-- what is told by options, of which it is known whether they ask for a capture, and whether frames are passed over
+pub capture_by : (options : Options) (skips : Bool) (work : Work) (end : Ended) (told : Option Stop) → options.is_capture ≡ true → options.skips_other ≡ skips →
+    EventsTell stop.Packet (style_of options) work (looked_where skips options capture_input) capture_last end told → EventsWrite options work end told
+capture_by options skips work end told i k w =
+    subst (λ (b : Bool). InputTells b options (style_of options) work end told) (sym i) (subst (λ (b : Bool). EventsTell stop.Packet (style_of options) work (looked_where b options capture_input) capture_last end told) (sym k) w)
+
+pub list_by : (options : Options) (skips : Bool) (work : Work) (end : Ended) (told : Option Stop) → options.is_capture ≡ false → options.skips_other ≡ skips →
+    EventsTell of_list (style_of options) work (looked_where skips options (list_input event_rules First)) list_last end told → EventsWrite options work end told
+list_by options skips work end told i k w =
+    subst (λ (b : Bool). InputTells b options (style_of options) work end told) (sym i) (subst (λ (b : Bool). EventsTell of_list (style_of options) work (looked_where b options (list_input event_rules First)) list_last end told) (sym k) w)
 
 -- the fault of the input of a run that stops by nothing else is told
 pub input_told : {F : Type 0} (of : F → Stop) (fault : Option F) → option_map (of_stop of) (option_map why.Input fault) ≡ option_map of fault

@@ -1,6 +1,12 @@
-pub mod UnwrappedReads
-pub mod EventTaskLemmas
+pub mod ReaderStates
 pub mod PassedLemmas
 pub mod LinkLemmas
+pub mod ListLooks
+pub mod CaptureLooks
+pub mod MadeLooks
+pub mod UnwrapLooks
+pub mod SkipLooks
+pub mod EventTaskLemmas
+pub mod TaskReads
 pub mod AsBefore
 pub mod ListedLemmas

@@ -1,49 +1,23 @@
--- What a task over the events of a capture counts of the packets that were not captured on Ethernet.
-use Rattle.std.proofs.Common.{Option, Some, None, Ok, Err, ◌≡◌, ◌≤◌, ◌+◌, ℕ, Bool, List, [], ◌∷◌, ◌++◌, length, take, inl, inr, ap, sym, ◌∙◌, refl, subst, arith}
+-- How many of the packets that a capture's reader gave were not captured on Ethernet.
+use Rattle.std.proofs.Common.{Some, None, Ok, Err, ◌≡◌, ◌≤◌, ◌+◌, ℕ, List, [], ◌∷◌, ◌++◌, length, take, inl, ap, sym, ◌∙◌, refl, subst, arith}
 use Rattle.std.specs.Global.{Global}
 use Rattle.std.proofs.lemmas.List.{append_assoc, append-nil, length-append, length-map}
 use Rattle.std.proofs.lemmas.Grind.{flat_map-append}
-use Rattle.list_core.specs.declared.device.InputEnd.{InputEnd}
 use Rattle.list_core.specs.declared.device.InputEnd.TheVariants.{Open}
 use Rattle.list_core.specs.declared.event.Event.{Event}
-use Rattle.list_core.specs.Device.{GivesOctets}
 use Rattle.list_core.specs.Items.{Numbered}
-use Rattle.list_core.specs.ReadItems.{AnswerOf, Gave}
 use Rattle.list_core.proofs.Readers.{CanFollow-none}
 use Rattle.tally_core.specs.Tally.{Tally, count_all, no_tally}
 use Rattle.tally_core.proofs.Tallies.{count_append}
 use Rattle.capture_core.specs.declared.capture_fault.CaptureFault.{CaptureFault}
-use Rattle.capture_core.specs.declared.packet_reader.PacketReader.{PacketReader}
 use Rattle.capture_core.specs.Captured.{captured_events, captured_packets}
 use Rattle.capture_core.specs.Packets.{Packet, event_of, other_link, other_links_in}
-use Rattle.capture_core.specs.PacketReader.{AnswersPacket, CountsPacket, PacketAnswer, PacketState, TellsPacket, at_start, events_behind, packet_state, packets_behind, packets_from}
-use Rattle.capture_core.proofs.PacketsTaken.{CountedFirst, RanPackets, TellsSome, behind_start, taken_then}
-use Rattle.frame_core.specs.declared.skip_other.SkipOther.{SkipOther}
-use Rattle.frame_core.specs.SkipOther.{Skips, beneath}
-use Rattle.frame_core.proofs.Skipping.{leaves_what_came}
-use Rattle.unwrap_core.specs.UnwrapEvents.{UnwrapsEach, under, unwrap_answer}
-use Rattle.unwrap_core.specs.declared.unwrap.Unwrap.{Unwrap}
-use Rattle.unwrap_core.proofs.UnwrappedEvents.{unwraps_what_came}
+use Rattle.capture_core.specs.PacketReader.{CountsPacket, PacketAnswer, PacketState, TellsPacket, at_start, events_behind, packets_behind, packets_from}
+use Rattle.capture_core.proofs.PacketsTaken.{CountedFirst, RanPackets, TellsSome, behind_start}
 use Rattle.engine_core.specs.declared.ending.Ending.{Ending}
-use Rattle.engine_core.specs.declared.stopped.Stopped.{Stopped}
-use Rattle.engine_core.specs.declared.style.Style.{Style}
-use Rattle.engine_core.specs.CaptureRun.{capture_faults}
-use Rattle.engine_core.proofs.CaptureRuns.{gave_taken, gives_packet}
-use Rattle.engine_core.proofs.InputRuns.{none_given}
-use Rattle.exchange_engines.specs.declared.engines.replay.ReplayStop.{ReplayStop}
-use Rattle.loss_engine.proofs.Judged.{AtStop}
-use Rattle.task_engine.specs.EventTasks.{OverWrites, Work}
-use Rattle.task_engine.specs.InputText.{capture_last}
+use Rattle.task_engine.specs.EventReader.{TellsStop}
 use Rattle.task_engine.specs.HandedOut.{CountsLinks, ReachesInCapture, ReadsAll}
-use Rattle.task_engine.proofs.PassedLemmas.{none_in_capture, reads, stop_left, take_front}
-use Rattle.task_engine.proofs.UnwrappedReads.{BeginsCapture, gave_states, packets}
-
--- what is unwrapped is at its stop where what came is
-stop_beneath : {F : Type 0} (unwraps : Bool) (raw : AnswerOf (Event Global) F) → AtStop (unwrap_answer unwraps raw) → AtStop raw
-stop_beneath unwraps (Ok None) h = tt
-stop_beneath unwraps (Ok (Some e)) h = h
-stop_beneath unwraps (Err (Some f)) h = tt
-stop_beneath unwraps (Err None) h = h
+use Rattle.task_engine.proofs.PassedLemmas.{take_front}
 
 module _ (a c : PacketState) (items : List (ℕ × Event Global)) (answer : PacketAnswer Global) (fresh : a.stage ≡ at_start) (none : a.other_links ≡ no_tally) (ran : RanPackets a items answer c) where
   abbrev whole : Numbered Packet CaptureFault
@@ -66,10 +40,10 @@ module _ (a c : PacketState) (items : List (ℕ × Event Global)) (answer : Pack
       let same : length (items ++ []) ≡ length items = ap length (append-nil items) in
       omega (arith, events, packets, same)
 
-  all_read : AtStop answer → length whole.items ≤ length items
+  all_read : TellsStop answer → length whole.items ≤ length items
   all_read h = stops answer refl h
     where
-      stops : (o : PacketAnswer Global) → answer ≡ o → AtStop o → length whole.items ≤ length items
+      stops : (o : PacketAnswer Global) → answer ≡ o → TellsStop o → length whole.items ≤ length items
       stops (Ok None) is h =
           let r = ran.reads [] c.ending (CanFollow-none c.ending) in
           let tells = subst (λ (o : PacketAnswer Global). TellsPacket o r.0 (events_behind c c.ending [])) is r.2 in
@@ -82,7 +56,7 @@ module _ (a c : PacketState) (items : List (ℕ × Event Global)) (answer : Pack
       stops (Err None) is h = absurd h
 
   -- the packets of the events, and none behind them
-  counted_so : (ending : Ending) (onward : Numbered Packet CaptureFault) (first : CountedFirst a items whole onward c.other_links) → (ReadsAll ending → AtStop answer) → CountsLinks whole ending (ReachesInCapture ran.given) c.other_links
+  counted_so : (ending : Ending) (onward : Numbered Packet CaptureFault) (first : CountedFirst a items whole onward c.other_links) → (ReadsAll ending → TellsStop answer) → CountsLinks whole ending (ReachesInCapture ran.given) c.other_links
   counted_so ending onward first stop =
       let many : length first.packets ≡ length items = sym (ap length first.are_events ∙ length-map first.packets (λ (p : ℕ × Packet). (p.0, event_of p.1))) in
       record {
@@ -115,7 +89,7 @@ module _ (a c : PacketState) (items : List (ℕ × Event Global)) (answer : Pack
             ∙ ap (λ (ps : List (ℕ × Packet)). count_all (other_links_in ps) no_tally) (sym (ap (take (length all)) parts ∙ take_front all rest.items));
       }
 
-  counted_by : (ending : Ending) → (ReadsAll ending → AtStop answer) → CountsLinks whole ending (ReachesInCapture ran.given) c.other_links
+  counted_by : (ending : Ending) → (ReadsAll ending → TellsStop answer) → CountsLinks whole ending (ReachesInCapture ran.given) c.other_links
   counted_by ending stop =
       let k = ran.counted [] c.ending (CanFollow-none c.ending) in
       by answer refl k.0 k.1 k.2 k.3
@@ -123,7 +97,7 @@ module _ (a c : PacketState) (items : List (ℕ × Event Global)) (answer : Pack
       by : (o : PacketAnswer Global) → answer ≡ o → (onward : Numbered Packet CaptureFault) (tally : Tally) → CountedFirst a items whole onward tally → CountsPacket answer onward (packets_behind c c.ending []) tally c.other_links →
           CountsLinks whole ending (ReachesInCapture ran.given) c.other_links
       by (Ok (Some e)) is onward tally first counts =
-          counted_more ending onward _ tally e first (subst (λ (o : PacketAnswer Global). CountsPacket o onward (packets_behind c c.ending []) tally c.other_links) is counts) (λ r. subst (λ (o : PacketAnswer Global). AtStop o) is (stop r))
+          counted_more ending onward _ tally e first (subst (λ (o : PacketAnswer Global). CountsPacket o onward (packets_behind c c.ending []) tally c.other_links) is counts) (λ r. subst (λ (o : PacketAnswer Global). TellsStop o) is (stop r))
       by (Ok None) is onward tally first counts =
           let same = subst (λ (o : PacketAnswer Global). CountsPacket o onward (packets_behind c c.ending []) tally c.other_links) is counts in
           counted_so ending onward (subst (λ (t : Tally). CountedFirst a items whole onward t) (sym same) first) stop
@@ -132,57 +106,7 @@ module _ (a c : PacketState) (items : List (ℕ × Event Global)) (answer : Pack
           counted_so ending onward (subst (λ (t : Tally). CountedFirst a items whole onward t) (sym same) first) stop
 
   -- so of the capture from its start on
-  counted_in : (ending : Ending) → (ReadsAll ending → AtStop answer) → CountsLinks (captured_packets c.ending ran.given) ending (ReachesInCapture ran.given) c.other_links
+  pub counted_in : (ending : Ending) → (ReadsAll ending → TellsStop answer) → CountsLinks (captured_packets c.ending ran.given) ending (ReachesInCapture ran.given) c.other_links
   counted_in ending stop =
       let is : whole ≡ captured_packets c.ending ran.given = ap (packets_behind a c.ending) (append-nil ran.given) ∙ ap (λ s. packets_from s a.answered a.most c.ending ran.given) fresh in
       subst (λ (l : Numbered Packet CaptureFault). CountsLinks l ending (ReachesInCapture ran.given) c.other_links) is (counted_by ending stop)
-
-module _ {R : Type 0} (left : R → Option (List ℕ)) (told : R → InputEnd) where
-  abbrev state : PacketReader R Global → PacketState
-  state x = packet_state left told x
-
-  -- the reader gave octets, and has counted the packets in them that were not captured on Ethernet
-  abbrev pub Kept : PacketReader R Global → PacketReader R Global → Ending → Type 0
-  Kept start end ending = (given : List ℕ) × GivesOctets (state start).left (state end).left given × CountsLinks (captured_packets (state end).ending given) ending (ReachesInCapture given) (state end).other_links
-
-  links_none : (start : PacketReader R Global) (ending : Ending) → BeginsCapture left told start → (state start).other_links ≡ no_tally → Kept start start ending
-  links_none start ending begins none =
-      let nothing : (captured_packets Open []).items ≡ [] = refl in
-      ([], none_given _, rw begins.is_open (record { read = 0; all = λ r. let few = ap (λ (l : List (ℕ × Packet)). length l) nothing in omega (arith, few); far = none_in_capture 0; is_tally = none }))
-
-  links_read : (start before end : PacketReader R Global) (items : List (ℕ × Event Global)) (answer : PacketAnswer Global) (ending : Ending) → BeginsCapture left told start → (state start).other_links ≡ no_tally →
-      Gave (packets left told) start items before → packets left told before answer end → (ReadsAll ending → AtStop answer) → Kept start end ending
-  links_read start before end items answer ending begins none gave q stop =
-      let ran = taken_then (state start) (state before) (state end) items answer (gave_taken (state start) (state before) items (gave_states AnswersPacket state start before items gave)) q in
-      (ran.given, gives_packet answer _ _ ran.given ran.took, counted_in (state start) (state end) items answer begins.fresh none ran ending stop)
-
-  module _ (style : Style) (work : Work) (old new : Option (List ℕ)) where
-    -- over a reader that unwraps frames
-    pub unwrapped_links : (number : Unwrap (PacketReader R Global) → ℕ) (start : Unwrap (PacketReader R Global)) (stopped : Stopped (Unwrap (PacketReader R Global)) (ReplayStop CaptureFault)) → BeginsCapture left told (under start) → (state (under start)).other_links ≡ no_tally →
-        OverWrites style work (record { answers = λ before answer after. UnwrapsEach (packets left told) before answer after; number = number; faults = capture_faults }) capture_last start stopped old new → Kept (under start) (under stopped.reader) stopped.ending
-    unwrapped_links number start stopped begins none w =
-        elim (reads (record { answers = λ before answer after. UnwrapsEach (packets left told) before answer after; number = number; faults = capture_faults }) capture_last start stopped style old new work w) [
-          | inl same ↦ rw same (links_none (under start) stopped.ending begins none)
-          | inr r ↦
-              let g = r.gave in
-              let came = unwraps_what_came (packets left told) start g.before r.items g.gave in
-              links_read (under start) (under g.before) (under stopped.reader) came.0 g.answered.given stopped.ending begins none came.1 g.answered.read
-              (λ a. stop_beneath _ g.answered.given (subst (λ (x : AnswerOf (Event Global) CaptureFault). AtStop x) g.answered.made (r.all a)))
-        ]
-
-    -- and over one that passes over frames of other protocols then
-    pub skipped_links : (number : SkipOther (Unwrap (PacketReader R Global)) Global → ℕ) (start : SkipOther (Unwrap (PacketReader R Global)) Global) (stopped : Stopped (SkipOther (Unwrap (PacketReader R Global)) Global) (ReplayStop CaptureFault)) →
-        BeginsCapture left told (under (beneath start)) → (state (under (beneath start))).other_links ≡ no_tally →
-        OverWrites style work (record { answers = λ before answer after. Skips (UnwrapsEach (packets left told)) before answer after; number = number; faults = capture_faults }) capture_last start stopped old new →
-        Kept (under (beneath start)) (under (beneath stopped.reader)) stopped.ending
-    skipped_links number start stopped begins none w =
-        elim (reads (record { answers = λ before answer after. Skips (UnwrapsEach (packets left told)) before answer after; number = number; faults = capture_faults }) capture_last start stopped style old new work w) [
-          | inl same ↦ rw same (links_none (under (beneath start)) stopped.ending begins none)
-          | inr r ↦
-              let g = r.gave in
-              let skipped = leaves_what_came (UnwrapsEach (packets left told)) start g.before r.items g.gave in
-              let each = g.answered.read in
-              let came = unwraps_what_came (packets left told) (beneath start) (beneath g.before) skipped.0 skipped.1 in
-              links_read (under (beneath start)) (under (beneath g.before)) (under (beneath stopped.reader)) came.0 each.given stopped.ending begins none came.1 each.read
-              (λ a. stop_beneath _ each.given (subst (λ (x : AnswerOf (Event Global) CaptureFault). AtStop x) each.made (stop_left g.answered.given (subst (λ (x : AnswerOf (Event Global) CaptureFault). AtStop x) g.answered.left (r.all a)))))
-        ]

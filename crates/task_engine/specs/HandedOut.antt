@@ -12,15 +12,15 @@ use Rattle.tally_core.specs.Tally.{Tally, count_all, no_tally}
 use Rattle.capture_core.specs.Captured.{captured_events, captured_packets}
 use Rattle.capture_core.specs.Packets.{Packet, other_links_in}
 use Rattle.frame_core.specs.SkipOther.{passed_in}
-use Rattle.unwrap_core.specs.UnwrapEvents.{unwrap_where}
 use Rattle.engine_core.specs.declared.ending.Ending.{Ending}
 use Rattle.engine_core.specs.declared.ending.Ending.TheVariants.{Done, Findings, InputFault, ReadFault, WriteFault, Memory}
-use Rattle.engine_core.specs.MadeRun.{with_each}
-use Rattle.engine_core.specs.Run.{AtLine}
+use Rattle.engine_core.specs.CaptureRun.{capture_input}
+use Rattle.engine_core.specs.Run.{AtLine, list_input}
 use Rattle.task_engine.specs.declared.stop.Stop.{Stop}
-use Rattle.task_engine.specs.declared.performed.Told.{Told}
+use Rattle.task_engine.specs.declared.told.Told.{Told}
 use Rattle.words_core.specs.CommandLine.{Asked, takes_options}
 use Rattle.words_core.specs.declared.option_words.Options.{Options}
+use Rattle.task_engine.specs.InputText.{unwrapped}
 
 -- the fault that is told
 abbrev pub stop_of : Option Told → Option Stop
@@ -54,23 +54,24 @@ ReachesInList z octets read =
     AtLine (event_rules {A = Global}) First z octets (take read (listing (event_rules {A = Global}) First z 0 octets).items)
     ⊎ AtLine (event_rules {A = Global}) First z octets (take (read - 1) (listing (event_rules {A = Global}) First z 0 octets).items)
 
--- so of what a capture tells, or of what a list says, each frame unwrapped where frames are
-abbrev pub PassesInput : Bool → Bool → Ending → InputEnd → List ℕ → Tally → Type 0
-PassesInput unwraps true ending z read tally = PassesOver (with_each (unwrap_where unwraps) (captured_events z read)) ending (ReachesInCapture read) tally
-PassesInput unwraps false ending z read tally = PassesOver (with_each (unwrap_where unwraps) (listing event_rules First z 0 read)) ending (ReachesInList z read) tally
+-- what is handed out of the frames that were passed over among events that octets say, as far as so many of them reach
+abbrev pub PassesAmong : {F : Type 0} → (InputEnd → List ℕ → Numbered (Event Global) F) → (InputEnd → List ℕ → ℕ → Type 0) → Ending → InputEnd → Option (List ℕ) → Option (List ℕ) → Option Tally → Type 0
+PassesAmong says Reaches ending z left after passed =
+    (tally : Tally) × (passed ≡ Some tally) × ((given : List ℕ) × GivesOctets left after given × PassesOver (says z given) ending (Reaches z given) tally)
 
--- octets that the reader gave are an input of which that is kept
-abbrev pub PassesGiven : Bool → Bool → Ending → InputEnd → Option (List ℕ) → Option (List ℕ) → Tally → Type 0
-PassesGiven unwraps is_capture ending z left after tally = (given : List ℕ) × GivesOctets left after given × PassesInput unwraps is_capture ending z given tally
+-- so among what a capture tells, or what a list says, each frame unwrapped where options ask for that
+abbrev pub PassesInput : Bool → Options → Ending → InputEnd → Option (List ℕ) → Option (List ℕ) → Option Tally → Type 0
+PassesInput true options ending z left after passed = PassesAmong (unwrapped options capture_input).says (λ y read. ReachesInCapture read) ending z left after passed
+PassesInput false options ending z left after passed = PassesAmong (unwrapped options (list_input event_rules First)).says ReachesInList ending z left after passed
 
 -- what is handed out of the frames that were passed over: that, where frames are, and else nothing
-abbrev pub PassesWhere : Bool → Bool → Bool → Ending → InputEnd → Option (List ℕ) → Option (List ℕ) → Option Tally → Type 0
-PassesWhere true unwraps is_capture ending z left after passed = (tally : Tally) × (passed ≡ Some tally) × PassesGiven unwraps is_capture ending z left after tally
-PassesWhere false unwraps is_capture ending z left after passed = passed ≡ None
+abbrev pub PassesWhere : Bool → Options → Ending → InputEnd → Option (List ℕ) → Option (List ℕ) → Option Tally → Type 0
+PassesWhere true options ending z left after passed = PassesInput options.is_capture options ending z left after passed
+PassesWhere false options ending z left after passed = passed ≡ None
 
 -- The frames of other protocols that are handed out are those among the events that were read, where they are passed over.
 abbrev pub RequestPasses : Options → Asked → Ending → InputEnd → Option (List ℕ) → Option (List ℕ) → Option Tally → Type 0
-RequestPasses options asked ending z left after passed = PassesWhere (takes_options asked && options.skips_other) options.unwraps options.is_capture ending z left after passed
+RequestPasses options asked ending z left after passed = PassesWhere (takes_options asked && options.skips_other) options ending z left after passed
 
 -- ---- the packets that were not captured on Ethernet
 

@@ -21,24 +21,33 @@ use Rattle.engine_core.specs.MadeRun.{made}
 use Rattle.engine_core.specs.Run.{list_input}
 use Rattle.exchange_engines.specs.declared.engines.replay.ReplayStop.{ReplayStop}
 use Rattle.exchange_engines.specs.declared.engines.replay.ReplayStop.TheVariants as stops
+use Rattle.words_core.specs.declared.option_words.Options.{Options}
 use Rattle.task_engine.specs.declared.stop.Stop.{Stop}
 use Rattle.task_engine.specs.declared.stop.Stop.TheVariants as stop
 use Rattle.task_engine.specs.EventTasks.{Ended, TaskLeaves, Work, left_of}
 
 -- ---- the inputs
 
--- the events of an input, each frame unwrapped where frames are, and then, where frames of other protocols are passed over, what is left of each event
-abbrev pub looked_at : {C F : Type 0} → Bool → Bool → Input (Event Global) C F → Input (Event Global) C F
-looked_at unwraps true input = made skip_other (made (unwrap_where unwraps) input)
-looked_at unwraps false input = made (unwrap_where unwraps) input
+-- the events of an input, each frame unwrapped where options ask for that
+abbrev pub unwrapped : {C F : Type 0} → Options → Input (Event Global) C F → Input (Event Global) C F
+unwrapped options input = made (unwrap_where options.unwraps) input
+
+-- the same, and then, where frames of other protocols are passed over, what is left of each event
+abbrev pub looked_where : {C F : Type 0} → Bool → Options → Input (Event Global) C F → Input (Event Global) C F
+looked_where true options input = made skip_other (unwrapped options input)
+looked_where false options input = unwrapped options input
+
+-- the events of an input as options say to look at them
+abbrev pub looked_at : {C F : Type 0} → Options → Input (Event Global) C F → Input (Event Global) C F
+looked_at options input = looked_where options.skips_other options input
 
 -- the events of a list so
-abbrev pub list_events : Bool → Bool → Input (Event Global) ListCause (ItemFault ListCause)
-list_events unwraps skips = looked_at unwraps skips (list_input event_rules First)
+abbrev pub list_events : Options → Input (Event Global) ListCause (ItemFault ListCause)
+list_events options = looked_at options (list_input event_rules First)
 
 -- those of a capture
-abbrev pub capture_events : Bool → Bool → Input (Event Global) CaptureCause CaptureFault
-capture_events unwraps skips = looked_at unwraps skips capture_input
+abbrev pub capture_events : Options → Input (Event Global) CaptureCause CaptureFault
+capture_events options = looked_at options capture_input
 
 -- how the fault of a list is written
 abbrev pub list_last : FaultText (ItemFault ListCause)
@@ -69,7 +78,7 @@ Tells {F} of EndsBy told = (by : Option F) × EndsBy by × (told ≡ option_map 
 abbrev pub EventsTell : {C F : Type 0} → (F → Stop) → Style → Work → Input (Event Global) C F → FaultText F → Ended → Option Stop → Type 0
 EventsTell of style work input last end told = Tells (of_stop of) (λ by. TaskLeaves style work.manner work.asked (left_of style input last end) end.ending by end.old end.new) told
 
--- the same of a capture or of a list, where frames are unwrapped or are not, and frames of other protocols passed over or are not
-abbrev pub InputTells : Bool → Bool → Bool → Style → Work → Ended → Option Stop → Type 0
-InputTells true unwraps skips style work end told = EventsTell stop.Packet style work (capture_events unwraps skips) capture_last end told
-InputTells false unwraps skips style work end told = EventsTell of_list style work (list_events unwraps skips) list_last end told
+-- the same of a capture or of a list, looked at by options
+abbrev pub InputTells : Bool → Options → Style → Work → Ended → Option Stop → Type 0
+InputTells true options style work end told = EventsTell stop.Packet style work (capture_events options) capture_last end told
+InputTells false options style work end told = EventsTell of_list style work (list_events options) list_last end told

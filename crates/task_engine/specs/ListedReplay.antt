@@ -21,14 +21,14 @@ use Rattle.task_engine.specs.HandedOut.{RequestLinks, RequestPasses}
 use Rattle.task_engine.specs.InputText.{capture_events, list_events}
 use Rattle.task_engine.specs.RequestText.{RequestWrites, style_of}
 
--- what is found of a capture or of a list, where frames are unwrapped or are not, and frames of other protocols passed over or are not
-abbrev pub FindsInput : Bool → Bool → Bool → InputEnd → List ℕ → List (ListedBlock Global) → List (Block Global) → Type 0
-FindsInput true unwraps skips z read listed blocks = FindsOf (capture_events unwraps skips) z read listed blocks
-FindsInput false unwraps skips z read listed blocks = FindsOf (list_events unwraps skips) z read listed blocks
+-- what is found of a capture or of a list, looked at by options
+abbrev pub FindsInput : Bool → Options → InputEnd → List ℕ → List (ListedBlock Global) → List (Block Global) → Type 0
+FindsInput true options z read listed blocks = FindsOf (capture_events options) z read listed blocks
+FindsInput false options z read listed blocks = FindsOf (list_events options) z read listed blocks
 
 -- what is found by options: the control blocks that `blocks` lists by the same ones, in the order of its lines
 abbrev pub FindsBy : Options → InputEnd → List ℕ → List (ListedBlock Global) → List (Block Global) → Type 0
-FindsBy options z read listed blocks = FindsInput options.is_capture options.unwraps options.skips_other z read listed blocks
+FindsBy options z read listed blocks = FindsInput options.is_capture options z read listed blocks
 
 -- a text that comes before all else is not written whole: the writer failed at a prefix of it, or memory was refused
 abbrev pub FailsToBegin : List ℕ → Ending → Option (List ℕ) → Option (List ℕ) → Type 0

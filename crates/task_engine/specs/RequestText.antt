@@ -50,7 +50,7 @@ work_by options asked = plain_work asked
 
 -- what a task over events leaves by these options, and what is told
 abbrev pub EventsWrite : Options → Work → Ended → Option Stop → Type 0
-EventsWrite options work end told = InputTells options.is_capture options.unwraps options.skips_other (style_of options) work end told
+EventsWrite options work end told = InputTells options.is_capture options (style_of options) work end told
 
 -- a run over a list leaves this text, and ended by this fault
 abbrev pub LeavesText : {S X C : Type 0} → Rules S X C → S → Text X C → Ended → Option (ItemFault C) → Type 0

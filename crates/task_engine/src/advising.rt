@@ -96,21 +96,13 @@ fn by_octets(is_list: bool, line: &[u8]) -> Option<Advice> {
     None
 }
 
-// What to do about a line of a list.
-fn on_list(cause: ListCause, line: &[u8]) -> Option<Advice> {
-    match by_octets(true, line) {
+// What to do about a line of a list or of a script, which is not recognised or has another fault.
+fn on_line(is_list: bool, is_unknown: bool, line: &[u8]) -> Option<Advice> {
+    match by_octets(is_list, line) {
         Some(advice) => Some(advice),
-        None if cause != ListCause::LineForm => None,
-        None if line.starts_with(b"control,") => Some(Advice::ScriptAsList),
-        None => Some(Advice::ListForms),
-    }
-}
-
-// What to do about a line of a script.
-fn on_script(cause: ScriptCause, line: &[u8]) -> Option<Advice> {
-    match by_octets(false, line) {
-        Some(advice) => Some(advice),
-        None if cause != ScriptCause::ScriptForm => None,
+        None if !is_unknown => None,
+        None if is_list && line.starts_with(b"control,") => Some(Advice::ScriptAsList),
+        None if is_list => Some(Advice::ListForms),
         None if is_of_list(line) => Some(Advice::ListAsScript),
         None => Some(Advice::ScriptForms),
     }
@@ -138,10 +130,12 @@ pub fn advice_by_line(stop: &Stop, octets: &[u8]) -> Option<Advice> {
     match stop {
         Stop::List(fault) => match fault.cause {
             ListCause::LineTooLong | ListCause::ListTooLong => on_length(fault.cause, line),
-            cause => on_list(cause, line),
+            cause => on_line(true, cause == ListCause::LineForm, line),
         },
         Stop::Script(ItemFault::Lines(fault)) => on_length(fault.cause, line),
-        Stop::Script(ItemFault::Line(_, cause)) => on_script(*cause, line),
+        Stop::Script(ItemFault::Line(_, cause)) => {
+            on_line(false, *cause == ScriptCause::ScriptForm, line)
+        }
         Stop::Capture(fault) if fault.cause == CaptureCause::TooManyRecords => Some(Advice::Split),
         Stop::Capture(_) | Stop::Packet(_) | Stop::SameBlockTwice(_) => None,
     }

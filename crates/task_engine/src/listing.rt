@@ -1,29 +1,26 @@
 //! The control blocks that an input shows, which a first reading finds, and the replay of them in a second one.
-ghost use Rattle.std.specs.Prelude.{◌≡◌, ℕ, List, IfOk, MatchResult, false, true};
+ghost use Rattle.std.specs.Prelude.{◌≡◌, ℕ, List, IfOk, MatchResult, false};
 ghost use Rattle.std.specs.Io.KnownBytes.{Appends};
 ghost use Rattle.list_core.specs.declared.device.InputEnd.{InputEnd};
 ghost use Rattle.list_core.specs.Device.{GivesOctets};
-ghost use Rattle.list_core.specs.ItemReader.{item_state};
-ghost use Rattle.capture_core.specs.PacketReader.{packet_state};
-ghost use Rattle.frame_core.specs.SkipOther.{beneath};
-ghost use Rattle.unwrap_core.specs.UnwrapEvents.{under};
 ghost use Rattle.engine_core.specs.Ending.{is_write_fault};
+ghost use Rattle.inventory_engine.specs.ListedBlocks.{FindsOf};
 ghost use Rattle.inventory_engine.specs.SubscribedText.{subscribed_text};
 ghost use Rattle.task_engine.specs.EventTasks.{ended};
 ghost use Rattle.task_engine.specs.HandedOut.{stop_of};
-ghost use Rattle.task_engine.specs.ListedReplay.{FailsToBegin, FindsBy, FindsInput, ListedLinks, ReplaysListed};
+ghost use Rattle.task_engine.specs.ListedReplay.{FailsToBegin, FindsBy, ListedLinks, ReplaysListed};
 ghost use Rattle.task_engine.specs.RequestText.{style_of};
 
+use crate::event_input::{EventInput, LeftOfList, LeftOfPackets, ListEvents, PacketEvents};
 use crate::over_events::style_of;
 use crate::performed::{Notes, Performed};
 use crate::performing::perform;
-use capture_core::PacketReader;
 use engine_core::Ending;
-use frame_core::SkipOther;
 use inventory_engine::{FoundBlocks, ListedBlock, find_blocks, put_all_subscribed};
-use list_core::{EventLines, ItemReader, Sink, Source, put_all};
+use list_core::{InputFault, Sink, Source, put_all};
+use object_core::LastObject;
 use std::alloc::{AllocError, Global};
-use unwrap_core::Unwrap;
+use text_core::LastLine;
 use words_core::{Options, Task};
 
 /// The control blocks that an input shows, and its reader as it then stands.
@@ -35,93 +32,20 @@ pub struct Listed<R> {
     pub reader: R,
 }
 
-// What reads a list beneath its events.
-fn beneath_list<R: Source>(events: Unwrap<ItemReader<R, EventLines>>) -> R
-    ensures left { R.left result ≡ (item_state R.left R.ending (under events)).left }
-    ensures source { R.ending result ≡ (item_state R.left R.ending (under events)).ending }
-{
-    events.into_beneath().into_reader()
-}
-
-// What reads a capture beneath its packets.
-fn beneath_capture<R: Source>(packets: Unwrap<PacketReader<R, Global>>) -> R
-    ensures left { R.left result ≡ (packet_state R.left R.ending (under packets)).left }
-    ensures source { R.ending result ≡ (packet_state R.left R.ending (under packets)).ending }
-{
-    packets.into_beneath().into_reader()
-}
-
+// Finds the control blocks that a reader of events shows. Each reader has a function of its own, so that it takes its room on the stack only where it is read.
 #[inline(never)]
-fn in_list<R: Source + Drop>(
-    alloc: Global,
-    unwraps: bool,
-    reader: R,
-) -> Result<Listed<R>, AllocError>
+fn found_in<
+    R: Source + Drop,
+    F: InputFault + LastLine + LastObject + Drop,
+    I: EventInput<R, F> + Drop,
+>(alloc: Global, options: Options, reader: R) -> Result<Listed<R>, AllocError>
     requires open { R.ending reader ≡ InputEnd.Open }
-    ensures { IfOk result (λ l. (given : List ℕ) × GivesOctets (R.left reader) (R.left l.reader) given × FindsInput false unwraps false (R.ending l.reader) given l.found.listed.items l.found.blocks.items) }
+    ensures { IfOk result (λ l. (given : List ℕ) × GivesOctets (R.left reader) (R.left l.reader) given × FindsOf (I.look options).input (R.ending l.reader) given l.found.listed.items l.found.blocks.items) }
 {
-    let mut events = Unwrap::new(ItemReader::new(reader, EventLines::First), unwraps);
+    let mut events = I::begin(alloc, options, reader);
     let found = find_blocks(alloc, &mut events)?;
-    Ok(Listed {
-        found,
-        reader: beneath_list(events),
-    })
-}
-
-#[inline(never)]
-fn in_capture<R: Source + Drop>(
-    alloc: Global,
-    unwraps: bool,
-    reader: R,
-) -> Result<Listed<R>, AllocError>
-    requires open { R.ending reader ≡ InputEnd.Open }
-    ensures { IfOk result (λ l. (given : List ℕ) × GivesOctets (R.left reader) (R.left l.reader) given × FindsInput true unwraps false (R.ending l.reader) given l.found.listed.items l.found.blocks.items) }
-{
-    let mut packets = Unwrap::new(PacketReader::new(alloc, reader), unwraps);
-    let found = find_blocks(alloc, &mut packets)?;
-    Ok(Listed {
-        found,
-        reader: beneath_capture(packets),
-    })
-}
-
-#[inline(never)]
-fn in_passed_list<R: Source + Drop>(
-    alloc: Global,
-    unwraps: bool,
-    reader: R,
-) -> Result<Listed<R>, AllocError>
-    requires open { R.ending reader ≡ InputEnd.Open }
-    ensures { IfOk result (λ l. (given : List ℕ) × GivesOctets (R.left reader) (R.left l.reader) given × FindsInput false unwraps true (R.ending l.reader) given l.found.listed.items l.found.blocks.items) }
-{
-    let mut events = SkipOther::new(Unwrap::new(
-        ItemReader::new(reader, EventLines::First),
-        unwraps,
-    ));
-    let found = find_blocks(alloc, &mut events)?;
-    let (events, _) = events.into_parts();
-    Ok(Listed {
-        found,
-        reader: beneath_list(events),
-    })
-}
-
-#[inline(never)]
-fn in_passed_capture<R: Source + Drop>(
-    alloc: Global,
-    unwraps: bool,
-    reader: R,
-) -> Result<Listed<R>, AllocError>
-    requires open { R.ending reader ≡ InputEnd.Open }
-    ensures { IfOk result (λ l. (given : List ℕ) × GivesOctets (R.left reader) (R.left l.reader) given × FindsInput true unwraps true (R.ending l.reader) given l.found.listed.items l.found.blocks.items) }
-{
-    let mut packets = SkipOther::new(Unwrap::new(PacketReader::new(alloc, reader), unwraps));
-    let found = find_blocks(alloc, &mut packets)?;
-    let (packets, _) = packets.into_parts();
-    Ok(Listed {
-        found,
-        reader: beneath_capture(packets),
-    })
+    let reader = events.take_apart().reader;
+    Ok(Listed { found, reader })
 }
 
 /// Reads an input by options, and finds the control blocks that `blocks` lists of it by the same ones, in the order of its lines
@@ -138,12 +62,11 @@ pub fn list_blocks<R: Source + Drop>(
     requires open { R.ending reader ≡ InputEnd.Open }
     ensures found { IfOk result (λ l. (given : List ℕ) × GivesOctets (R.left reader) (R.left l.reader) given × FindsBy options (R.ending l.reader) given l.found.listed.items l.found.blocks.items) }
 {
-    let unwraps = options.unwraps;
     match (options.is_capture, options.skips_other) {
-        (false, false) => in_list(alloc, unwraps, reader),
-        (false, true) => in_passed_list(alloc, unwraps, reader),
-        (true, false) => in_capture(alloc, unwraps, reader),
-        (true, true) => in_passed_capture(alloc, unwraps, reader),
+        (false, false) => found_in::<_, _, ListEvents<R>>(alloc, options, reader),
+        (false, true) => found_in::<_, _, LeftOfList<R>>(alloc, options, reader),
+        (true, false) => found_in::<_, _, PacketEvents<R>>(alloc, options, reader),
+        (true, true) => found_in::<_, _, LeftOfPackets<R>>(alloc, options, reader),
     }
 }
 
@@ -184,7 +107,8 @@ pub fn replay_listed<R: Source, W: Sink>(
     requires open { R.ending reader ≡ InputEnd.Open }
     requires works { W.failed writer.old ≡ false }
     ensures text { (given : List ℕ) × GivesOctets (R.left reader) (R.left result.reader) given
-        × ReplaysListed options found.listed.items found.blocks.items (ended result.ending (R.ending result.reader) given (W.contents writer.old) (W.contents writer.new)) (R.left reader) (R.left result.reader) (stop_of result.told) result.passed }
+        × ReplaysListed options found.listed.items found.blocks.items
+        (ended result.ending (R.ending result.reader) given (W.contents writer.old) (W.contents writer.new)) (R.left reader) (R.left result.reader) (stop_of result.told) result.passed }
     ensures links { ListedLinks options found.blocks.items result.ending (R.ending result.reader) (R.left reader) (R.left result.reader) result.other_links }
     ensures read_fault { result.ending ≡ Ending.ReadFault → R.ending result.reader ≡ InputEnd.Failed }
     ensures fault { W.failed writer.new ≡ is_write_fault result.ending }
@@ -192,12 +116,6 @@ pub fn replay_listed<R: Source, W: Sink>(
     let FoundBlocks { listed, blocks } = found;
     match write_subscribed(alloc, options, listed.as_slice(), writer) {
         Ok(()) => perform(alloc, Task::Replay(blocks), options, reader, notes, writer),
-        Err(ending) => Performed {
-            ending,
-            told: None,
-            passed: None,
-            other_links: None,
-            reader,
-        },
+        Err(ending) => Performed::of_reader(ending, None, reader),
     }
 }

@@ -1,24 +1,22 @@
 //! What a task notes, and what it leaves, of what its engine's run hands out.
-ghost use Rattle.std.specs.Prelude.{◌≡◌, None, Some, option_map};
+ghost use Rattle.std.specs.Prelude.{◌≡◌, None, option_map};
 ghost use Rattle.list_core.specs.ItemReader.{item_state};
-ghost use Rattle.capture_core.specs.PacketReader.{packet_state};
-ghost use Rattle.frame_core.specs.SkipOther.{beneath, passed_over};
-ghost use Rattle.unwrap_core.specs.UnwrapEvents.{under};
 ghost use Rattle.task_engine.specs.HandedOut.{stop_of};
 ghost use Rattle.task_engine.specs.InputText.{of_list, of_stop};
 
-use crate::advising::{Advice, advice_by_line};
+use crate::event_input::{EventInput, Parts};
 use crate::stop::Stop;
-use capture_core::{CaptureFault, PacketReader};
+use crate::told::Told;
+use capture_core::CaptureFault;
 use engine_core::{Ending, Stopped};
 use exchange_engines::ReplayStop;
-use frame_core::SkipOther;
-use list_core::{EventLines, ItemFault, ItemReader, ListCause, Source, fault_of_list};
+use list_core::{EventLines, InputFault, ItemFault, ItemReader, ListCause, Source};
 use loss_engine::Unjudged;
+use object_core::LastObject;
 use script_core::{ScriptCause, ScriptLines};
 use std::alloc::Global;
 use tally_core::KindTally;
-use unwrap_core::Unwrap;
+use text_core::LastLine;
 
 /// What a task notes of its events, beside what it writes.
 #[derive(Drop)]
@@ -27,15 +25,6 @@ pub struct Notes {
     pub heard: Vec<bool, Global>,
     /// The streams that `losses` counts alone.
     pub unjudged: Unjudged<Global>,
-}
-
-/// What is told of the fault by which a task ended.
-#[derive(Drop)]
-pub struct Told {
-    /// The fault.
-    pub stop: Stop,
-    /// What to do about it, where what stands there tells.
-    pub advice: Option<Advice>,
 }
 
 /// What a task leaves.
@@ -53,27 +42,23 @@ pub struct Performed<R> {
     pub reader: R,
 }
 
-// What is told of a fault at which these octets stand.
-fn told_at(stop: Stop, octets: &[u8]) -> Told
-    ensures { result.stop ≡ stop }
-{
-    let advice = advice_by_line(&stop, octets);
-    Told { stop, advice }
-}
-
-// What is told of a fault of this line, of which the reader of the items may hold the octets.
-fn told_of<R: Source, G>(stop: Stop, line: u64, reader: &ItemReader<R, G>) -> Told
-    ensures { result.stop ≡ stop }
-{
-    told_at(stop, reader.held_from(line).unwrap_or(b""))
-}
-
-// What is told of the fault of a list.
-fn told_of_list<R: Source>(fault: &ItemFault<ListCause>, events: &ItemReader<R, EventLines>) -> Told
-    ensures { result.stop ≡ of_list fault.now }
-{
-    let fault = fault_of_list(fault);
-    told_of(Stop::List(fault), fault.line, events)
+impl<R> Performed<R> {
+    /// What a task leaves that kept nothing beside what it read.
+    pub(crate) fn of_reader(ending: Ending, told: Option<Told>, reader: R) -> Performed<R>
+        ensures ending { result.ending ≡ ending }
+        ensures told { result.told ≡ told }
+        ensures passed { result.passed ≡ None }
+        ensures links { result.other_links ≡ None }
+        ensures reader { result.reader ≡ reader }
+    {
+        Performed {
+            ending,
+            told,
+            passed: None,
+            other_links: None,
+            reader,
+        }
+    }
 }
 
 // The line of a fault of a script.
@@ -104,17 +89,35 @@ pub fn of_script<R: Source>(
     let told = match fault {
         Some(fault) => {
             let line = line_of(&fault);
-            Some(told_of(Stop::Script(fault), line, &reader))
+            Some(Told::of_line(Stop::Script(fault), line, &reader))
         }
         None => None,
     };
-    Performed {
+    Performed::of_reader(ending, told, reader.into_reader())
+}
+
+// What a task leaves that ran over a list.
+#[inline(never)]
+pub fn of_list<R: Source>(
+    stopped: Stopped<ItemReader<R, EventLines>, ItemFault<ListCause>>,
+) -> Performed<R>
+    ensures ending { result.ending ≡ stopped.ending }
+    ensures left { R.left result.reader ≡ (item_state R.left R.ending stopped.reader).left }
+    ensures source { R.ending result.reader ≡ (item_state R.left R.ending stopped.reader).ending }
+    ensures told { stop_of result.told ≡ option_map of_list stopped.fault }
+    ensures passed { result.passed ≡ None }
+    ensures links { result.other_links ≡ None }
+{
+    let Stopped {
         ending,
-        told,
-        passed: None,
-        other_links: None,
-        reader: reader.into_reader(),
-    }
+        fault,
+        reader,
+    } = stopped;
+    let told = match fault {
+        Some(fault) => Some(Told::of_list(&fault, &reader)),
+        None => None,
+    };
+    Performed::of_reader(ending, told, reader.into_reader())
 }
 
 // What a task leaves that read a capture.
@@ -132,183 +135,56 @@ pub fn of_capture<R>(stopped: Stopped<R, CaptureFault>) -> Performed<R>
         reader,
     } = stopped;
     let told = match fault {
-        Some(fault) => Some(told_at(Stop::Capture(fault), b"")),
+        Some(fault) => Some(Told::at(Stop::Capture(fault), b"")),
         None => None,
     };
-    Performed {
-        ending,
-        told,
-        passed: None,
-        other_links: None,
-        reader,
-    }
+    Performed::of_reader(ending, told, reader)
 }
 
-// What is told of why a task over a capture stopped.
-fn told_of_packets(why: Option<ReplayStop<CaptureFault>>) -> Option<Told>
-    ensures { stop_of result ≡ option_map (of_stop Stop.Packet) why }
-{
-    match why {
-        Some(ReplayStop::Input(fault)) => Some(told_at(Stop::Packet(fault), b"")),
-        Some(ReplayStop::SameBlockTwice(position)) => {
-            Some(told_at(Stop::SameBlockTwice(position), b""))
-        }
-        None => None,
-    }
-}
-
-/// What a task leaves that ran over the packets of a capture.
-#[inline(never)]
-pub fn of_packets<R: Source>(
-    stopped: Stopped<Unwrap<PacketReader<R, Global>>, ReplayStop<CaptureFault>>,
-) -> Performed<R>
-    ensures ending { result.ending ≡ stopped.ending }
-    ensures left { R.left result.reader ≡ (packet_state R.left R.ending (under stopped.reader)).left }
-    ensures source { R.ending result.reader ≡ (packet_state R.left R.ending (under stopped.reader)).ending }
-    ensures told { stop_of result.told ≡ option_map (of_stop Stop.Packet) stopped.fault }
-    ensures passed { result.passed ≡ None }
-    ensures links { result.other_links ≡ Some (packet_state R.left R.ending (under stopped.reader)).other_links }
-{
-    let Stopped {
-        ending,
-        fault,
-        reader,
-    } = stopped;
-    let (reader, other_links) = reader.into_beneath().into_parts();
-    Performed {
-        ending,
-        told: told_of_packets(fault),
-        passed: None,
-        other_links: Some(other_links),
-        reader,
-    }
-}
-
-/// What a task leaves that ran over what is left of the packets of a capture.
-#[inline(never)]
-pub fn of_passed_packets<R: Source>(
-    stopped: Stopped<SkipOther<Unwrap<PacketReader<R, Global>>, Global>, ReplayStop<CaptureFault>>,
-) -> Performed<R>
-    ensures ending { result.ending ≡ stopped.ending }
-    ensures left { R.left result.reader ≡ (packet_state R.left R.ending (under (beneath stopped.reader))).left }
-    ensures source { R.ending result.reader ≡ (packet_state R.left R.ending (under (beneath stopped.reader))).ending }
-    ensures passed { result.passed ≡ Some (passed_over stopped.reader) }
-    ensures links { result.other_links ≡ Some (packet_state R.left R.ending (under (beneath stopped.reader))).other_links }
-    ensures told { stop_of result.told ≡ option_map (of_stop Stop.Packet) stopped.fault }
-{
-    let Stopped {
-        ending,
-        fault,
-        reader,
-    } = stopped;
-    let (packets, passed) = reader.into_parts();
-    let (reader, other_links) = packets.into_beneath().into_parts();
-    Performed {
-        ending,
-        told: told_of_packets(fault),
-        passed: Some(passed),
-        other_links: Some(other_links),
-        reader,
-    }
-}
-
-// What is told of why a task over the events of a list stopped.
-fn told_of_events<R: Source>(
-    why: Option<ReplayStop<ItemFault<ListCause>>>,
-    events: &ItemReader<R, EventLines>,
+// What is told of why a task over events stopped.
+fn told_of<R: Source, F: InputFault + LastLine + LastObject + Drop, I: EventInput<R, F>>(
+    why: Option<ReplayStop<F>>,
+    events: &I,
 ) -> Option<Told>
-    ensures { stop_of result ≡ option_map (of_stop of_list) why }
+    ensures { stop_of result ≡ option_map (of_stop I.stop) why }
 {
     match why {
-        Some(ReplayStop::Input(fault)) => Some(told_of_list(&fault, events)),
+        Some(ReplayStop::Input(fault)) => Some(events.told(fault)),
         Some(ReplayStop::SameBlockTwice(position)) => {
-            Some(told_at(Stop::SameBlockTwice(position), b""))
+            Some(Told::at(Stop::SameBlockTwice(position), b""))
         }
         None => None,
     }
 }
 
-/// What a task leaves that ran over the events of a list.
+/// What a task leaves that ran over events.
 #[inline(never)]
-pub fn of_list_events<R: Source>(
-    stopped: Stopped<ItemReader<R, EventLines>, ReplayStop<ItemFault<ListCause>>>,
+pub fn of_events<R: Source, F: InputFault + LastLine + LastObject + Drop, I: EventInput<R, F>>(
+    stopped: Stopped<I, ReplayStop<F>>,
 ) -> Performed<R>
     ensures ending { result.ending ≡ stopped.ending }
-    ensures left { R.left result.reader ≡ (item_state R.left R.ending stopped.reader).left }
-    ensures source { R.ending result.reader ≡ (item_state R.left R.ending stopped.reader).ending }
-    ensures told { stop_of result.told ≡ option_map (of_stop of_list) stopped.fault }
-    ensures passed { result.passed ≡ None }
-    ensures links { result.other_links ≡ None }
+    ensures left { R.left result.reader ≡ (I.state stopped.reader).left }
+    ensures source { R.ending result.reader ≡ (I.state stopped.reader).source }
+    ensures told { stop_of result.told ≡ option_map (of_stop I.stop) stopped.fault }
+    ensures passed { result.passed ≡ (I.state stopped.reader).passed }
+    ensures links { result.other_links ≡ (I.state stopped.reader).links }
 {
     let Stopped {
         ending,
         fault,
         reader,
     } = stopped;
-    let told = told_of_events(fault, &reader);
-    Performed {
-        ending,
-        told,
-        passed: None,
-        other_links: None,
-        reader: reader.into_reader(),
-    }
-}
-
-/// What a task leaves that ran over the events of a list, unwrapped or not.
-#[inline(never)]
-pub fn of_unwrapped_events<R: Source>(
-    stopped: Stopped<Unwrap<ItemReader<R, EventLines>>, ReplayStop<ItemFault<ListCause>>>,
-) -> Performed<R>
-    ensures ending { result.ending ≡ stopped.ending }
-    ensures left { R.left result.reader ≡ (item_state R.left R.ending (under stopped.reader)).left }
-    ensures source { R.ending result.reader ≡ (item_state R.left R.ending (under stopped.reader)).ending }
-    ensures told { stop_of result.told ≡ option_map (of_stop of_list) stopped.fault }
-    ensures passed { result.passed ≡ None }
-    ensures links { result.other_links ≡ None }
-{
-    let Stopped {
-        ending,
-        fault,
+    let told = told_of(fault, &reader);
+    let Parts {
         reader,
-    } = stopped;
-    let told = told_of_events(fault, reader.beneath());
+        passed,
+        other_links,
+    } = reader.take_apart();
     Performed {
         ending,
         told,
-        passed: None,
-        other_links: None,
-        reader: reader.into_beneath().into_reader(),
-    }
-}
-
-/// What a task leaves that ran over what is left of the events of a list.
-#[inline(never)]
-pub fn of_passed_events<R: Source>(
-    stopped: Stopped<
-        SkipOther<Unwrap<ItemReader<R, EventLines>>, Global>,
-        ReplayStop<ItemFault<ListCause>>,
-    >,
-) -> Performed<R>
-    ensures ending { result.ending ≡ stopped.ending }
-    ensures left { R.left result.reader ≡ (item_state R.left R.ending (under (beneath stopped.reader))).left }
-    ensures source { R.ending result.reader ≡ (item_state R.left R.ending (under (beneath stopped.reader))).ending }
-    ensures passed { result.passed ≡ Some (passed_over stopped.reader) }
-    ensures links { result.other_links ≡ None }
-    ensures told { stop_of result.told ≡ option_map (of_stop of_list) stopped.fault }
-{
-    let Stopped {
-        ending,
-        fault,
+        passed,
+        other_links,
         reader,
-    } = stopped;
-    let (events, passed) = reader.into_parts();
-    let told = told_of_events(fault, events.beneath());
-    Performed {
-        ending,
-        told,
-        passed: Some(passed),
-        other_links: None,
-        reader: events.into_beneath().into_reader(),
     }
 }

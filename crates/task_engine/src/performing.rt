@@ -10,9 +10,9 @@ ghost use Rattle.task_engine.specs.RequestText.{RequestWrites, RewriteTells, man
 
 use crate::event_tasks::{Checks, ListsBlocks, Replays, Shows, TellsLosses, Watches};
 use crate::over_events::over_events;
-use crate::performed::{Notes, Performed, of_capture, of_list_events, of_script};
+use crate::performed::{Notes, Performed, of_capture, of_list, of_script};
 use engine_core::Ending;
-use exchange_engines::{ReplayManner, of_input, publish_to_stop};
+use exchange_engines::{ReplayManner, publish_to_stop};
 use frame_engines::{import_to_stop, rewrite_to_stop};
 use list_core::{Sink, Source};
 use std::alloc::Global;
@@ -30,7 +30,7 @@ fn perform_rewrite<R: Source, W: Sink>(alloc: Global, reader: R, writer: &mut W)
     ensures read_fault { result.ending ≡ Ending.ReadFault → R.ending result.reader ≡ InputEnd.Failed }
     ensures fault { W.failed writer.new ≡ is_write_fault result.ending }
 {
-    of_list_events(of_input(rewrite_to_stop(alloc, reader, writer)))
+    of_list(rewrite_to_stop(alloc, reader, writer))
 }
 
 // The manner of a replay that options ask for.
