@@ -7,6 +7,7 @@ that the tests themselves can be tried (it takes minutes, and it holds whole inp
     tests/run --program tests/oracles/reference_program --without streaming
 """
 import os
+import re
 import sys
 
 # What the program reads today. A kind of Data that is not named here is refused by its identifier (UnexpectedTag), and
@@ -665,14 +666,15 @@ HELP = {
 TAKES = {"show": " [OPTIONS]", "check": " [OPTIONS]", "rewrite": " [OPTIONS]", "blocks": " [OPTIONS]", "replay": " [OPTIONS] [BLOCK]...",
          "publish": " [OPTIONS]", "watch": " [OPTIONS] --period <N> --id <TEXT>", "losses": " [OPTIONS]", "import": " [OPTIONS]"}
 READ = "-r, --read <FILE> Reads FILE in place of standard input, which - stands for"
-OPTIONS = {
-    "--capture": "Reads a capture (classic or pcapng) in place of a list",
-    "--skip-other": "Takes frames of other EtherTypes as a sign that time passes, and counts them",
-    "--unwrap": "Looks at frames without HSR tags, and without VLAN tags before another",
-    "--raw": "With -r: passes over no frames, and looks at them with all tags",
-    "--time": "Begins each line with the date of its event, in UTC",
-    "--json": "Writes JSON objects, one a line, in place of text",
-}
+
+
+def options_told():
+    """What help says of each option of the commands over events, as docs/FORMATS.md has it."""
+    with open(os.path.join(os.path.dirname(__file__), "..", "..", "docs", "FORMATS.md"), encoding="utf-8") as formats:
+        return dict(re.findall(r"(?m)^\| `(--[\w-]+)` \| (.*?) \|$", formats.read().partition("\n| Option of ")[2].partition("\n\n")[0]))
+
+
+OPTIONS = options_told()
 VERSION = "goose 1.0.0"
 
 

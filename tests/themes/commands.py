@@ -8,12 +8,15 @@ import shlex
 import subprocess
 import tempfile
 
-from helpers import captured, command_table
+from helpers import captured
+from helpers.asked_tools import module
 from helpers.harness import SECONDS, run
 from oracles import objects, reading, reference
 from themes.devices import words
 
 TOP = pathlib.Path(__file__).resolve().parent.parent.parent
+command_table = module("command_table")
+enumerated = command_table.enumerated
 COMMANDS, OPTIONS, INTAKES = list(command_table.commands()), command_table.options(), command_table.intakes()
 READ, READ_HELP = command_table.reading()
 NAMES = [it.name for it in COMMANDS]
@@ -22,11 +25,6 @@ ON_EVENTS = [it.name for it in COMMANDS if it.takes_options]
 AWAITED = {"a script": "script", "a classic capture": "capture"}
 # What a bash completes after these words, one a line.
 COMPLETE = 'source "$0"; COMP_WORDS=("$@"); COMP_CWORD=$(($# - 1)); _goose; printf "%s\\n" "${COMPREPLY[@]}"'
-
-
-def enumerated(names, mark="`"):
-    *most, last = (f"{mark}{it}{mark}" for it in names)
-    return f"{', '.join(most)} and {last}"
 
 
 class Equal:
@@ -168,13 +166,13 @@ def documents():
     yield Says("README.md", *(f"goose {it} " for it in NAMES if it not in ("import", "rewrite")), "`import`", "`rewrite`")
     yield Says("docs/ARCHITECTURE.md", *(f"`{it}`" for it in NAMES))
     yield Says("docs/PROOFS.md", *(f"`{it}`" for it in NAMES))
-    yield Says("crates/words_core/README.md", enumerated(OPTIONS), enumerated(ON_EVENTS))
+    yield Says("crates/words_core/README.md", enumerated(ON_EVENTS))
 
 
 def sources():
     """The program's other lists, and what it reads: a command that takes the options on events reads a list or a capture."""
     yield Says("crates/goose/src/main.rt", f"The commands are {enumerated(NAMES, '')};")
-    yield Says("crates/words_core/src/words.rt", f"{enumerated(OPTIONS)}, which the commands {enumerated(ON_EVENTS)} take")
+    yield Says("crates/words_core/src/words.rt", f"which the commands {enumerated(ON_EVENTS)} take")
     yield Equal("what each command reads", lambda: {name: it == command_table.EVENTS for name, it in command_table.intakes().items()},
                 {it.name: it.takes_options for it in COMMANDS})
 
@@ -184,7 +182,6 @@ def oracles():
     yield Equal("the help of the slow programs", lambda: list(reference.HELP.items()), [(it.name, it.help) for it in COMMANDS])
     yield Equal("the words of the slow programs", lambda: reference.TAKES,
                 {it.name: words for it in COMMANDS if (words := command_table.usage(it))})
-    yield Equal("the options of the slow programs", lambda: reference.OPTIONS, OPTIONS)
     for name, found in (("slow programs over events", reading.COMMANDS), ("slow writers of objects", objects.COMMANDS), ("runs over captures", captured.ASKED)):
         yield Equal(f"the commands of the {name}", lambda found=found: sorted(found), sorted(ON_EVENTS))
 

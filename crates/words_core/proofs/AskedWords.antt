@@ -1,132 +1,385 @@
--- Words that ask for a task are taken, and that task is theirs, with the options that stand there.
-use Rattle.std.proofs.Common.{◌≡◌, ◌∙◌, ◌≤◌, ℕ, true, false, true≢false, List, [], ◌∷◌, ◌++◌, length, Option, Some, None, Ok, is_some, option_and_then, inl, inr, refl, sym, ap, ap₂, subst, arith}
-use Rattle.std.specs.Prelude.{codes, if◌then◌else◌}
+-- Words that ask for a task are taken, and that task is theirs, with the options and the file that stand there.
+use Rattle.std.proofs.Common.{◌≡◌, ◌&&◌, ◌∙◌, ◌≤◌, ◌==◌, ◌||◌, ℕ, Bool, true, false, not, true≢false, List, [], ◌∷◌, ◌++◌, length, map, Option, Some, None, Ok, is_some, option_and_then, option_map, unwrap_or, refl, sym, ap, ap₂, subst, arith, length-append, slice_index}
+use Rattle.std.specs.Prelude.{codes, fold, pos, slice_get}
 use Rattle.std.specs.Global.{Global}
-use Rattle.clap.specs.Lexer.{usize_max}
-use Rattle.clap.specs.Words.{Row, Text}
+use Rattle.std.specs.List.{list_all}
+use Rattle.std.specs.Str.{bytes_eq}
+use Rattle.std.specs.Str.Parse.{IsNumeral, digits_value}
+use Rattle.std.proofs.lemmas.Int.{ints}
+use Rattle.std.proofs.lemmas.Slice.Eq.{bytes_eq-Decides}
+use Rattle.clap.specs.Lexer.{usize_max, without_minus}
+use Rattle.clap.specs.ValueTests.{accepts}
+use Rattle.clap.specs.Words.{Row, Shape, Text}
 use Rattle.clap.specs.Simple.{entered}
-use Rattle.clap.specs.Takes.{entered_passes, level_passes}
-use Rattle.clap.specs.Walk.{idle, nothing_held, rows_after, subcommand_met}
-use Rattle.clap.proofs.OnLiterals.{clap_on_literals}
+use Rattle.clap.specs.Takes.{default_passes, entered_passes, is_valid, level_passes, value_passes}
+use Rattle.clap.specs.Walk.{idle, nothing_held, reading_by, rows_after, stop_after, subcommand_met, with_default}
+use Rattle.clap.specs.declared.builder.value_parser.Reading.{Reading}
+use Rattle.clap.specs.declared.builder.value_parser.ValueParser.TheVariants as parses
+use Rattle.clap.specs.declared.parser.matches.ValueSource.TheVariants.{CommandLine}
+use Rattle.clap.proofs.ValueTestLemmas.{Accepts-accepts}
+use Rattle.clap.proofs.WalkLemmas.{both}
 use Rattle.block_core.specs.declared.block.Block.{Block}
+use Rattle.block_core.specs.Period.{IsPeriod}
 use Rattle.loss_core.specs.Periods.{Period}
 use Rattle.words_core.specs.declared.option_words.Options.{Options}
-use Rattle.words_core.specs.CommandLine.{Asked, check, import, list_blocks, losses, name_of, publish, replay, rewrite, show, takes_options, task_asked, watch}
-use Rattle.words_core.specs.RequestLine.{AsksByNameWith, AsksLossesWith, AsksReplayWith, AsksWatchWith, AsksWith, Switch, is_on, request_asked, switch_word, times}
-use Rattle.words_core.proofs.AskingWords.{line, names, stops}
-use Rattle.words_core.proofs.LossesWords.{losses_asked_for}
-use Rattle.words_core.proofs.NamedWords.{IsTaken, all_off, at_most, taken_behind, wished}
-use Rattle.words_core.proofs.OptionRows.{AtMostOnce, times_of, use_all, words_of}
-use Rattle.words_core.proofs.OptionWalks.{dashes, level_ends}
-use Rattle.words_core.proofs.PlainWords.{IsEnd, plain_leaf, plain_rows, plain_set}
-use Rattle.words_core.proofs.ReplayWords.{replay_asked_for}
-use Rattle.words_core.proofs.SwitchWords.{all_append, as_switches, times_append}
-use Rattle.words_core.proofs.Switches.{AreAll, is_common, no_options}
-use Rattle.words_core.proofs.WatchWords.{in_all, watch_asked_for}
+use Rattle.words_core.specs.CommandLine.{Asked, Meaning, check, import, list_blocks, losses, losses_of, name_of, number_said, period_at, publish, replay, replay_of, rewrite, show, task_asked, watch, watch_asked}
+use Rattle.words_core.specs.RequestLine.{Argument, AsksWith, SayPeriods, Switch, argument_name, argument_text, capture, changes, file, file_asked, given_as, is_on, is_set, named_once, request_asked, simulation, switch, switch_name, switches, takes_argument, text, valued}
+use Rattle.words_core.proofs.ArgumentRows.{how_read, row_for, row_texts}
+use Rattle.words_core.proofs.ArgumentWalks.{Each, Ended, Handled, arguments_end, each_of, level_ended, set_held}
+use Rattle.words_core.proofs.AskingWords.{line, names, stops, top}
+use Rattle.words_core.proofs.BlockWords as blocks_said
+use Rattle.words_core.proofs.Digits.{no_minus, no_plus}
+use Rattle.words_core.proofs.Handled.{IsApart, apart_read, block_argument, file_handled, id_handled, is_of, losses_offer, losses_read, period_handled, plain_handled, replay_offers, replay_reads, replays, stream_handled, switch_handled, text_handled, watch_offers, watch_reads}
+use Rattle.words_core.proofs.KeptRows.{no_default, no_defaults}
+use Rattle.words_core.proofs.LoneFlags.{help_flag}
+use Rattle.words_core.proofs.LossesRows.{losing, stream_period}
+use Rattle.words_core.proofs.NamedWords.{IsTaken, at_most, taken_behind, wished}
+use Rattle.words_core.proofs.OptionRows.{default_other, default_set, new_row, read_flag, row_at, switch_flag}
+use Rattle.words_core.proofs.PeriodWords as periods_said
+use Rattle.words_core.proofs.PlainWords.{options_leave, plain_leaf, plain_leaves, plain_sets}
+use Rattle.words_core.proofs.WatchRows.{fits_back, id_option, period_option, watches}
 
--- a task whose subcommand takes options alone
-record TakesThem (t : Asked) : Type 0 where
+-- ---- a command, and words that ask for it
+
+record Command (t : Asked) (s : Shape) : Type 0 where
   met : subcommand_met names idle (name_of t) ≡ Some (name_of t)
-  enters : (rest : List Text) → entered line (Some (name_of t, rest)) ≡ Some (name_of t, rows_after (plain_leaf true t).rules [] rest)
-  asks : (rows : List Row) → task_asked (name_of t, rows) ≡ Some (Ok t)
-  passes : (rest : List Text) → level_passes (plain_leaf true t) [] nothing_held rest false ≡ true → entered_passes line (Some (name_of t, rest)) ≡ true
+  enters : (rest : List Text) → entered line (Some (name_of t, rest)) ≡ Some (name_of t, rows_after s.rules [] rest)
+  passes : (rest : List Text) → level_passes s [] nothing_held rest false ≡ true → entered_passes line (Some (name_of t, rest)) ≡ true
+  again : s.args_override_self ≡ false
+  defaults : list_all default_passes s.rules ≡ true
+  sets : (o : Switch) (rows : List Row) → is_set (switch_name o) (fold with_default rows s.rules) ≡ is_set (switch_name o) rows
+  leaves : (id : Text) → IsApart id → (rows : List Row) → row_at id (fold with_default rows s.rules) ≡ row_at id rows
 
-show_takes : TakesThem show
-show_takes = record { met = refl; enters = λ rest. refl; asks = λ rows. refl; passes = λ rest p. p }
+-- rows hold arguments under other names than those of options
+abbrev HoldOthers : Shape → List Row → List Argument → Type 0
+HoldOthers s rows all = (id : Text) → IsApart id → row_at id rows ≡ row_for id (how_read s id) (given_as id all)
 
-check_takes : TakesThem check
-check_takes = record { met = refl; enters = λ rest. refl; asks = λ rows. refl; passes = λ rest p. p }
+there_is : {X : Type 0} (o : Option X) (x : X) → o ≡ Some x → is_some o ≡ true
+there_is None x e = cc
+there_is (Some y) x e = refl
 
-blocks_take : TakesThem list_blocks
-blocks_take = record { met = refl; enters = λ rest. refl; asks = λ rows. refl; passes = λ rest p. p }
+first_named : (how : Reading) (from : Option Text) → option_and_then (λ r. slice_get r.values 0) (row_for (codes "read") how (named_once from)) ≡ from
+first_named how None = refl
+first_named how (Some name) = refl
 
-there_is : (t : Asked) (rest : List Text) (o : Option (Text × List Row)) → o ≡ Some (name_of t, rows_after (plain_leaf true t).rules [] rest) → is_some o ≡ true
-there_is t rest None e = cc
-there_is t rest (Some r) e = refl
+command_taken : (t : Asked) (s : Shape) → Command t s → (words : List Text) (options : Options) (from : Option Text) (a : AsksWith words t options from) → length words ≤ usize_max → Each s a.arguments a.arguments
+    → ((rows : List Row) → HoldOthers s rows a.arguments → (task_asked (name_of t, rows) ≡ Some (Ok t)) × (is_valid s rows false ≡ true)) → IsTaken words t options from
+command_taken t s c words options from a fits each asks = subst (λ (w : List Text). IsTaken w t options from) (sym a.behind) (
+  ap (λ (o : Option (Text × List Text)). option_and_then request_asked (entered line o)) stop ∙ ap (option_and_then request_asked) (c.enters rest)
+      ∙ wished options rows t (task_asked (name_of t, rows)) so.0 set a.agree,
+  taken_behind a.called (name_of t) rest c.met (there_is (entered line (Some (name_of t, rest))) (name_of t, rows) (c.enters rest))
+      (c.passes rest (level_ended s a.arguments rest ended c.again c.defaults so.1)),
+  ap (λ (o : Option (Text × List Text)). option_and_then file_asked (entered line o)) stop ∙ ap (option_and_then file_asked) (c.enters rest) ∙ named,
+)
+  where
+    rest : List Text
+    rest = a.line ++ a.mark
 
-options_asked : (t : Asked) → TakesThem t → (called : Text) (os : List Switch) → AreAll is_common os → (mark : List Text) (options : Options) → IsEnd mark → ((o : Switch) → times_of o os ≡ (if is_on options o then 1 else 0))
-    → IsTaken (called ∷ name_of t ∷ (words_of os ++ mark)) t options
-options_asked t k called os all mark options end gives =
-    let rest = words_of os ++ mark in
-    let rows = rows_after (plain_leaf true t).rules [] rest in
-    let new : AtMostOnce (λ o. 0) os = λ o. let m = at_most (is_on options o) (times_of o os) (gives o) in omega (arith, m) in
-    let ended = plain_rows t os all mark end new in
-    let level = level_ends (plain_leaf true t) (use_all os) rest ended refl refl refl in (
-      ap (λ (o : Option (Text × List Text)). option_and_then request_asked (entered line o)) (stops (name_of t) (name_of t) rest k.met) ∙ ap (option_and_then request_asked) (k.enters rest)
-          ∙ wished options rows (λ o. times_of o os) t (task_asked (name_of t, rows)) (k.asks rows) (plain_set t os all mark end new) gives,
-      taken_behind called (name_of t) rest k.met (there_is t rest (entered line (Some (name_of t, rest))) (k.enters rest)) (k.passes rest level),
-    )
+    few : length a.line ≤ usize_max
+    few = let all = ap length a.behind in let size = length-append a.line a.mark in omega (arith, fits, all, size)
 
-with_options_asked : (words : List Text) (t : Asked) (options : Options) → TakesThem t → AsksByNameWith words t options → IsTaken words t options
-with_options_asked words t options k a =
-    let os = as_switches a.given a.are_options in
-    let gives : (o : Switch) → times_of o os.0 ≡ (if is_on options o then 1 else 0) = λ o. sym (ap (times (switch_word o)) os.1) ∙ a.give o in
-    let same : a.called ∷ name_of t ∷ (words_of os.0 ++ a.mark) ≡ words = ap (λ (l : List Text). a.called ∷ name_of t ∷ (l ++ a.mark)) (sym os.1) ∙ sym a.behind in
-    subst (λ (w : List Text). IsTaken w t options) same (options_asked t k a.called os.0 os.2 a.mark options a.end gives)
+    ended : Ended s a.arguments rest
+    ended = arguments_end s a.arguments each a.line a.mark a.say a.end few
 
--- a task whose subcommand takes none
-name_alone : (called : Text) (t : Asked) → takes_options t ≡ false → (IsTaken (called ∷ name_of t ∷ []) t no_options) × (IsTaken (called ∷ name_of t ∷ dashes ∷ []) t no_options)
-unfolding clap_on_literals
-name_alone called rewrite e = ((refl, refl), (refl, refl))
-name_alone called publish e = ((refl, refl), (refl, refl))
-name_alone called import e = ((refl, refl), (refl, refl))
-name_alone called show e = absurd (true≢false e)
-name_alone called check e = absurd (true≢false e)
-name_alone called list_blocks e = absurd (true≢false e)
-name_alone called (replay blocks) e = absurd (true≢false e)
-name_alone called (watch period id) e = absurd (true≢false e)
-name_alone called (losses periods) e = absurd (true≢false e)
+    rows : List Row
+    rows = rows_after s.rules [] rest
 
-without_options_asked : (words : List Text) (t : Asked) (options : Options) → takes_options t ≡ false → AsksByNameWith words t options → IsTaken words t options
-without_options_asked words t options none a =
-    let no_given = a.taken none in
-    let same : a.called ∷ name_of t ∷ a.mark ≡ words = ap (λ (l : List Text). a.called ∷ name_of t ∷ (l ++ a.mark)) (sym no_given) ∙ sym a.behind in
-    let is_off = all_off options (λ o. sym (ap (times (switch_word o)) no_given) ∙ a.give o) in
-    let both = name_alone a.called t none in
-    subst (λ (w : List Text). IsTaken w t options) same (subst (λ (o : Options). IsTaken (a.called ∷ name_of t ∷ a.mark) t o) (sym is_off) (elim a.end [
-      | inl e ↦ subst (λ (m : List Text). IsTaken (a.called ∷ name_of t ∷ m) t no_options) (sym e) both.0
-      | inr e ↦ subst (λ (m : List Text). IsTaken (a.called ∷ name_of t ∷ m) t no_options) (sym e) both.1
-    ]))
+    held : HoldOthers s rows a.arguments
+    held id apart = ap (row_at id) ended.rows_are ∙ c.leaves id apart ended.rows_so ∙ ended.hold id
 
-replay_with_asked : (words : List Text) (blocks : List (Block Global)) (options : Options) → length words ≤ usize_max → AsksReplayWith words blocks options → IsTaken words (replay blocks) options
-replay_with_asked words blocks options fits a =
-    let size = ap length a.behind in
-    let less : length a.arguments ≤ usize_max = omega (arith, fits, size) in
-    subst (λ (w : List Text). IsTaken w (replay blocks) options) (sym a.behind)
-    (replay_asked_for a.called a.arguments blocks options less a.asks a.give)
+    set : (o : Switch) → is_set (switch_name o) rows ≡ is_on options o
+    set o = ap (is_set (switch_name o)) ended.rows_are ∙ c.sets o ended.rows_so ∙ set_held s ended.rows_so a.arguments o (is_on options o) ended.hold each (a.give o)
 
-watch_with_asked : (words : List Text) (period : ℕ) (id : Text) (options : Options) → AsksWatchWith words period id options → IsTaken words (watch period id) options
-watch_with_asked words period id options a =
-    let first = all_append a.before (a.between ++ a.after) a.are_options in
-    let second = all_append a.between a.after first.1 in
-    let before = as_switches a.before first.0 in
-    let middle = as_switches a.between second.0 in
-    let after = as_switches a.after second.1 in
-    let gives : (o : Switch) → in_all before.0 middle.0 after.0 o ≡ (if is_on options o then 1 else 0) = λ o.
-    let all = times_append (switch_word o) a.before (a.between ++ a.after) in
-    let rest = times_append (switch_word o) a.between a.after in
-    let give = a.give o in
-    let b : times (switch_word o) a.before ≡ times_of o before.0 = ap (times (switch_word o)) before.1 in
-    let m : times (switch_word o) a.between ≡ times_of o middle.0 = ap (times (switch_word o)) middle.1 in
-    let l : times (switch_word o) a.after ≡ times_of o after.0 = ap (times (switch_word o)) after.1 in
-    omega (arith, all, rest, give, b, m, l) in
-    let taken = watch_asked_for a.alone period id options a.asks before.0 middle.0 after.0 before.2 middle.2 after.2 gives in
-    let same : a.asks.called ∷ codes "watch" ∷ (words_of before.0 ++ (a.asks.first ++ (words_of middle.0 ++ (a.asks.second ++ words_of after.0)))) ≡ words =
-    ap (λ (l : List Text). a.asks.called ∷ codes "watch" ∷ (l ++ (a.asks.first ++ (words_of middle.0 ++ (a.asks.second ++ words_of after.0))))) (sym before.1)
-    ∙ ap₂ (λ (m l : List Text). a.asks.called ∷ codes "watch" ∷ (a.before ++ (a.asks.first ++ (m ++ (a.asks.second ++ l))))) (sym middle.1) (sym after.1) ∙ sym a.behind in
-    subst (λ (w : List Text). IsTaken w (watch period id) options) same taken
+    so : (task_asked (name_of t, rows) ≡ Some (Ok t)) × (is_valid s rows false ≡ true)
+    so = asks rows held
 
-losses_with_asked : (words : List Text) (periods : List Period) (options : Options) → AsksLossesWith words periods options → IsTaken words (losses periods) options
-losses_with_asked words periods options a =
-    subst (λ (w : List Text). IsTaken w (losses periods) options) (sym a.behind) (losses_asked_for a.called periods a.arguments a.others a.mark options a.says a.are_options a.end a.give)
+    stop : stop_after top.rules names (name_of t ∷ rest) ≡ Some (name_of t, rest)
+    stop = stops (name_of t) (name_of t) rest c.met
 
-pub asked_with : (words : List Text) (t : Asked) (options : Options) → length words ≤ usize_max → AsksWith words t options → IsTaken words t options
-asked_with words show options fits a = with_options_asked words show options show_takes a
-asked_with words check options fits a = with_options_asked words check options check_takes a
-asked_with words list_blocks options fits a = with_options_asked words list_blocks options blocks_take a
-asked_with words rewrite options fits a = without_options_asked words rewrite options refl a
-asked_with words publish options fits a = without_options_asked words publish options refl a
-asked_with words import options fits a = without_options_asked words import options refl a
-asked_with words (replay blocks) options fits a = replay_with_asked words blocks options fits a
-asked_with words (watch period id) options fits a = watch_with_asked words period id options a
-asked_with words (losses periods) options fits a = losses_with_asked words periods options a
+    named : file_asked (name_of t, rows) ≡ from
+    named =
+        ap (option_and_then (λ (r : Row). slice_get r.values 0)) (held (codes "read") apart_read)
+        ∙ ap (λ (ts : List Text). option_and_then (λ (r : Row). slice_get r.values 0) (row_for (codes "read") (how_read s (codes "read")) ts)) a.named
+        ∙ first_named (how_read s (codes "read")) from
+
+-- ---- each argument of a command
+
+named_few : (from : Option Text) → length (named_once from) ≤ 1
+named_few None = omega arith
+named_few (Some name) = omega arith
+
+-- what is given once at most in words that ask so
+module _ (words : List Text) (t : Asked) (options : Options) (from : Option Text) (a : AsksWith words t options from) where
+  once : (o : Switch) → length (given_as (switch_name o) a.arguments) ≤ 1
+  once o = at_most (is_on options o) (length (given_as (switch_name o) a.arguments)) (a.give o)
+
+  once_read : length (given_as (codes "read") a.arguments) ≤ 1
+  once_read = subst (λ (l : List Text). length l ≤ 1) (sym a.named) (named_few from)
+
+-- ---- commands without words of their own
+
+plain_command : (takes : Bool) (t : Asked) → subcommand_met names idle (name_of t) ≡ Some (name_of t)
+    → ((rest : List Text) → entered line (Some (name_of t, rest)) ≡ Some (name_of t, rows_after (plain_leaf takes t).rules [] rest))
+    → ((rest : List Text) → level_passes (plain_leaf takes t) [] nothing_held rest false ≡ true → entered_passes line (Some (name_of t, rest)) ≡ true)
+    → list_all default_passes (plain_leaf takes t).rules ≡ true → Command t (plain_leaf takes t)
+plain_command takes t met enters passes defaults = record { met = met; enters = enters; passes = passes; again = refl; defaults = defaults; sets = plain_sets takes t; leaves = plain_leaves takes t }
+
+plain_asked : (takes : Bool) (t : Asked) → Command t (plain_leaf takes t) → ((rows : List Row) → (task_asked (name_of t, rows) ≡ Some (Ok t)) × (is_valid (plain_leaf takes t) rows false ≡ true))
+    → ((a : Argument) → takes_argument t a ≡ is_of takes a)
+    → (words : List Text) (options : Options) (from : Option Text) → length words ≤ usize_max → AsksWith words t options from → IsTaken words t options from
+plain_asked takes t c asks same words options from fits a =
+    command_taken t (plain_leaf takes t) c words options from a fits
+    (each_of (plain_leaf takes t) a.arguments (takes_argument t) (λ x e. plain_handled takes t a.arguments (once words t options from a) (once_read words t options from a) x (sym (same x) ∙ e)) a.arguments a.taken) (λ rows held. asks rows)
+
+show_takes : (a : Argument) → takes_argument show a ≡ is_of true a
+show_takes (switch o) = refl
+show_takes (file name) = refl
+show_takes (valued name value) = refl
+show_takes (text b) = refl
+
+check_takes : (a : Argument) → takes_argument check a ≡ is_of true a
+check_takes (switch o) = refl
+check_takes (file name) = refl
+check_takes (valued name value) = refl
+check_takes (text b) = refl
+
+list_blocks_takes : (a : Argument) → takes_argument list_blocks a ≡ is_of true a
+list_blocks_takes (switch o) = refl
+list_blocks_takes (file name) = refl
+list_blocks_takes (valued name value) = refl
+list_blocks_takes (text b) = refl
+
+rewrite_takes : (a : Argument) → takes_argument rewrite a ≡ is_of false a
+rewrite_takes (switch o) = refl
+rewrite_takes (file name) = refl
+rewrite_takes (valued name value) = refl
+rewrite_takes (text b) = refl
+
+publish_takes : (a : Argument) → takes_argument publish a ≡ is_of false a
+publish_takes (switch o) = refl
+publish_takes (file name) = refl
+publish_takes (valued name value) = refl
+publish_takes (text b) = refl
+
+import_takes : (a : Argument) → takes_argument import a ≡ is_of false a
+import_takes (switch o) = refl
+import_takes (file name) = refl
+import_takes (valued name value) = refl
+import_takes (text b) = refl
+
+-- ---- `replay`
+
+-- the defaults at the end leave what those of the options leave
+replay_leaves : {X : Type 0} (of : List Row → X) → ((o : Switch) (rows : List Row) → of (with_default rows (switch_flag o)) ≡ of rows)
+    → (rows : List Row) → of (fold with_default rows replays.rules) ≡ of rows
+replay_leaves of past rows =
+    let own = with_default (with_default rows (switch_flag changes)) (switch_flag simulation) in
+    ap (λ (l : List Row). of (fold with_default l (switch_flag changes ∷ switch_flag simulation ∷ read_flag ∷ map switch_flag switches ++ help_flag ∷ []))) (no_default block_argument rows refl)
+    ∙ ap (λ (l : List Row). of (fold with_default l (map switch_flag switches ++ help_flag ∷ []))) (no_default read_flag own refl)
+    ∙ options_leave of past switches own ∙ past simulation (with_default rows (switch_flag changes)) ∙ past changes rows
+
+apart_block : IsApart (codes "BLOCK")
+apart_block capture = refl
+apart_block _ = refl
+
+replay_asked_for : (blocks : List (Block Global)) (words : List Text) (options : Options) (from : Option Text) → length words ≤ usize_max → AsksWith words (replay blocks) options from → IsTaken words (replay blocks) options from
+replay_asked_for blocks words options from fits a =
+    command_taken (replay blocks) replays
+    (record {
+      met = refl;
+      enters = λ rest. refl;
+      passes = λ rest p. p;
+      again = refl;
+      defaults = refl;
+      sets = λ o. replay_leaves (is_set (switch_name o)) (default_set o);
+      leaves = λ id apart. replay_leaves (row_at id) (λ o. default_other o id (apart o));
+    })
+    words options from a fits
+    (each_of replays a.arguments (takes_argument (replay blocks)) handled a.arguments a.taken) (λ rows held. (asks rows held, refl))
+  where
+    handled : (x : Argument) → takes_argument (replay blocks) x ≡ true → Handled replays a.arguments x
+    handled (switch o) e = switch_handled replays refl o (replay_offers o) a.arguments (once words (replay blocks) options from a o)
+    handled (file name) e = file_handled replays replay_reads a.arguments name (once_read words (replay blocks) options from a)
+    handled (valued name value) e = absurd (true≢false (sym e))
+    handled (text b) e = text_handled a.arguments b
+
+    asks : (rows : List Row) → HoldOthers replays rows a.arguments → task_asked (codes "replay", rows) ≡ Some (Ok (replay blocks))
+    asks rows held =
+        ap (λ (o : Option Row). Some (replay_of (unwrap_or (option_map (λ (r : Row). r.values) o) []))) (held (codes "BLOCK") apart_block)
+        ∙ ap (λ (l : List Text). Some (replay_of l)) (row_texts (codes "BLOCK") (how_read replays (codes "BLOCK")) (given_as (codes "BLOCK") a.arguments))
+        ∙ ap (λ (m : Meaning). Some m) (blocks_said.all_said blocks (given_as (codes "BLOCK") a.arguments) (sym a.means))
+
+-- ---- periods
+
+apart_period : IsApart (codes "period")
+apart_period capture = refl
+apart_period _ = refl
+
+apart_id : IsApart (codes "id")
+apart_id capture = refl
+apart_id _ = refl
+
+-- ---- `losses`
+
+losses_leave : {X : Type 0} (of : List Row → X) → ((o : Switch) (rows : List Row) → of (with_default rows (switch_flag o)) ≡ of rows) → (rows : List Row) → of (fold with_default rows losing.rules) ≡ of rows
+losses_leave of past rows =
+    ap (λ (l : List Row). of (fold with_default l (map switch_flag switches ++ help_flag ∷ []))) (no_defaults (stream_period ∷ read_flag ∷ []) rows (refl, (refl, tt))) ∙ options_leave of past switches rows
+
+periods_say : (periods : List Period) (ts : List Text) → SayPeriods periods ts → map Some periods ≡ map period_at ts
+periods_say [] ts say = ap (map period_at) (sym say)
+periods_say (p ∷ periods) [] say = absurd say
+periods_say (p ∷ periods) (t ∷ ts) say =
+    ap₂ (λ (o : Option Period) (l : List (Option Period)). o ∷ l)
+    (sym (ap period_at say.0.is ∙ periods_said.text_says p say.0.digits say.0.are_digits say.0.number say.0.range)) (periods_say periods ts say.1)
+
+losses_asked_for : (periods : List Period) (words : List Text) (options : Options) (from : Option Text) → length words ≤ usize_max → AsksWith words (losses periods) options from → IsTaken words (losses periods) options from
+losses_asked_for periods words options from fits a =
+    command_taken (losses periods) losing
+    (record {
+      met = refl;
+      enters = λ rest. refl;
+      passes = λ rest p. p;
+      again = refl;
+      defaults = refl;
+      sets = λ o. losses_leave (is_set (switch_name o)) (default_set o);
+      leaves = λ id apart. losses_leave (row_at id) (λ o. default_other o id (apart o));
+    })
+    words options from a fits
+    (each_of losing a.arguments (takes_argument (losses periods)) handled a.arguments a.taken) (λ rows held. (asks rows held, refl))
+  where
+    handled : (x : Argument) → takes_argument (losses periods) x ≡ true → Handled losing a.arguments x
+    handled (switch o) e = switch_handled losing refl o (losses_offer o e) a.arguments (once words (losses periods) options from a o)
+    handled (file name) e = file_handled losing losses_read a.arguments name (once_read words (losses periods) options from a)
+    handled (valued name value) e = subst (λ (n : Text). Handled losing a.arguments (valued n value)) (sym ((bytes_eq-Decides name (codes "period")).0 e)) (stream_handled a.arguments value)
+    handled (text b) e = absurd (true≢false (sym e))
+
+    asks : (rows : List Row) → HoldOthers losing rows a.arguments → task_asked (codes "losses", rows) ≡ Some (Ok (losses periods))
+    asks rows held =
+        ap (λ (o : Option Row). Some (losses_of (unwrap_or (option_map (λ (r : Row). r.values) o) []))) (held (codes "period") apart_period)
+        ∙ ap (λ (l : List Text). Some (losses_of l)) (row_texts (codes "period") (how_read losing (codes "period")) (given_as (codes "period") a.arguments))
+        ∙ ap (λ (m : Meaning). Some m) (periods_said.all_said periods (given_as (codes "period") a.arguments) (periods_say periods (given_as (codes "period") a.arguments) a.means))
+
+-- ---- `watch`
+
+watch_leaves : {X : Type 0} (of : List Row → X) → ((o : Switch) (rows : List Row) → of (with_default rows (switch_flag o)) ≡ of rows)
+    → (rows : List Row) → of (fold with_default rows watches.rules) ≡ of rows
+watch_leaves of past rows =
+    ap (λ (l : List Row). of (fold with_default l (map switch_flag switches ++ help_flag ∷ []))) (no_defaults (period_option ∷ id_option ∷ read_flag ∷ []) rows (refl, (refl, (refl, tt))))
+    ∙ options_leave of past switches rows
+
+module _ (digits : Text) (are : IsNumeral 10 digits) where
+  as_they_stand : without_minus digits ≡ digits
+  as_they_stand = go digits (no_minus digits are)
+    where
+      go : (ds : Text) → (slice_index ds 0 == 45) ≡ false → without_minus ds ≡ ds
+      go [] e = refl
+      go (d ∷ ds) e = rw e refl
+
+  digits_pass : (period : ℕ) → digits_value 10 digits ≡ period → IsPeriod period → accepts false (parses.Signed (pos 2) (pos 65536)) digits ≡ true
+  digits_pass period e range =
+      Accepts-accepts false (parses.Signed (pos 2) (pos 65536)) digits (rw (no_minus digits are, no_plus digits are) are, rw (no_minus digits are, no_plus digits are) (record { sfits = omega arith }), rw (no_minus digits are, no_plus digits are) (omega (arith, ints)), rw (no_minus digits are, no_plus digits are) (omega (arith, ints)))
+
+  digits_say : (period : ℕ) → digits_value 10 digits ≡ period → IsPeriod period → number_said (without_minus digits) ≡ Some period
+  digits_say period e range = rw (as_they_stand, fits_back digits (rw (no_plus digits are) are, rw (no_plus digits are) (omega arith)), no_plus digits are, e) refl
+
+-- the one text of a watch's period
+record OnePeriod (period : ℕ) (ts : List Text) : Type 0 where
+  digits : Text
+  are : ts ≡ digits ∷ []
+  pass : value_passes period_option digits ≡ true
+  say : number_said (without_minus digits) ≡ Some period
+
+one_period : (period : ℕ) (ts : List Text) → SayPeriods (record { id = None; number = period } ∷ []) ts → OnePeriod period ts
+one_period period [] say = absurd say
+one_period period (t ∷ ts) say = record {
+  digits = say.0.digits;
+  are = ap₂ (λ (x : Text) (l : List Text). x ∷ l) say.0.is say.1;
+  pass = digits_pass say.0.digits say.0.are_digits period say.0.number say.0.range;
+  say = digits_say say.0.digits say.0.are_digits period say.0.number say.0.range;
+}
+
+-- texts under a name that pass a test are texts of arguments that do, where they have the name
+abbrev passes_as : Text → (Text → Bool) → Argument → Bool
+passes_as name p a = not (bytes_eq (argument_name a) name) || p (argument_text a)
+
+given_pass : (name : Text) (p : Text → Bool) (args : List Argument) → list_all p (given_as name args) ≡ true → list_all (passes_as name p) args ≡ true
+given_pass name p [] e = refl
+given_pass name p (a ∷ args) e = go (bytes_eq (argument_name a) name) refl (given_pass name p args)
+  where
+    go : (b : Bool) → bytes_eq (argument_name a) name ≡ b → (list_all p (given_as name args) ≡ true → list_all (passes_as name p) args ≡ true) → list_all (passes_as name p) (a ∷ args) ≡ true
+    go true t later = let parts = both (p (argument_text a)) (list_all p (given_as name args)) (rw t at e) in rw (t, parts.0) (later parts.1)
+    go false t later = rw t (later (rw t at e))
+
+all_both : (p q : Argument → Bool) (args : List Argument) → list_all p args ≡ true → list_all q args ≡ true → list_all (λ x. p x && q x) args ≡ true
+all_both p q [] e f = refl
+all_both p q (a ∷ args) e f =
+    let first = both (p a) (list_all p args) e in
+    let second = both (q a) (list_all q args) f in
+    rw (first.0, second.0) (all_both p q args first.1 second.1)
+
+watch_valid : (rows : List Row) (digits id : Text) → row_at (codes "period") rows ≡ Some (new_row (codes "period") (reading_by period_option) CommandLine (digits ∷ []))
+    → row_at (codes "id") rows ≡ Some (new_row (codes "id") (reading_by id_option) CommandLine (id ∷ [])) → is_valid watches rows false ≡ true
+watch_valid rows digits id p i = rw (p, i) refl
+
+watch_says : (rows : List Row) (digits id : Text) (period : ℕ) → row_at (codes "period") rows ≡ Some (new_row (codes "period") (reading_by period_option) CommandLine (digits ∷ []))
+    → row_at (codes "id") rows ≡ Some (new_row (codes "id") (reading_by id_option) CommandLine (id ∷ [])) → number_said (without_minus digits) ≡ Some period → watch_asked rows ≡ Some (Ok (watch period id))
+watch_says rows digits id period p i say = rw (p, i) (rw say refl)
+
+watch_asked_for : (period : ℕ) (id : Text) (words : List Text) (options : Options) (from : Option Text) → length words ≤ usize_max → AsksWith words (watch period id) options from → IsTaken words (watch period id) options from
+watch_asked_for period id words options from fits a =
+    command_taken (watch period id) watches
+    (record {
+      met = refl;
+      enters = λ rest. refl;
+      passes = λ rest p. p;
+      again = refl;
+      defaults = refl;
+      sets = λ o. watch_leaves (is_set (switch_name o)) (default_set o);
+      leaves = λ x apart. watch_leaves (row_at x) (λ o. default_other o x (apart o));
+    })
+    words options from a fits
+    (each_of watches a.arguments (λ x. takes_argument (watch period id) x && passes_as (codes "period") (value_passes period_option) x)
+    (λ x e. let parts = both (takes_argument (watch period id) x) (passes_as (codes "period") (value_passes period_option) x) e in handled x parts.0 parts.1) a.arguments
+    (all_both (takes_argument (watch period id)) (passes_as (codes "period") (value_passes period_option)) a.arguments a.taken (given_pass (codes "period") (value_passes period_option) a.arguments pass)))
+    asks
+  where
+    one : OnePeriod period (given_as (codes "period") a.arguments)
+    one = one_period period (given_as (codes "period") a.arguments) a.means.0
+
+    pass : list_all (value_passes period_option) (given_as (codes "period") a.arguments) ≡ true
+    pass = subst (λ (l : List Text). list_all (value_passes period_option) l ≡ true) (sym one.are) (rw one.pass refl)
+
+    once_period : length (given_as (codes "period") a.arguments) ≤ 1
+    once_period = let size = ap length one.are in omega (arith, size)
+
+    once_id : length (given_as (codes "id") a.arguments) ≤ 1
+    once_id = let size = ap length a.means.1 in omega (arith, size)
+
+    own : (name value : Text) (b : Bool) → bytes_eq name (codes "period") ≡ b → (b || bytes_eq name (codes "id")) ≡ true → (not b || value_passes period_option value) ≡ true → Handled watches a.arguments (valued name value)
+    own name value true is e f = subst (λ (n : Text). Handled watches a.arguments (valued n value)) (sym ((bytes_eq-Decides name (codes "period")).0 is)) (period_handled a.arguments value f once_period)
+    own name value false is e f = subst (λ (n : Text). Handled watches a.arguments (valued n value)) (sym ((bytes_eq-Decides name (codes "id")).0 e)) (id_handled a.arguments value once_id)
+
+    handled : (x : Argument) → takes_argument (watch period id) x ≡ true → passes_as (codes "period") (value_passes period_option) x ≡ true → Handled watches a.arguments x
+    handled (switch o) e f = switch_handled watches refl o (watch_offers o e) a.arguments (once words (watch period id) options from a o)
+    handled (file name) e f = file_handled watches watch_reads a.arguments name (once_read words (watch period id) options from a)
+    handled (valued name value) e f = own name value (bytes_eq name (codes "period")) refl e f
+    handled (text b) e f = absurd (true≢false (sym e))
+
+    asks : (rows : List Row) → HoldOthers watches rows a.arguments → (task_asked (codes "watch", rows) ≡ Some (Ok (watch period id))) × (is_valid watches rows false ≡ true)
+    asks rows held =
+        let p = held (codes "period") apart_period ∙ ap (row_for (codes "period") (how_read watches (codes "period"))) one.are in
+        let i = held (codes "id") apart_id ∙ ap (row_for (codes "id") (how_read watches (codes "id"))) a.means.1 in
+        (watch_says rows one.digits id period p i one.say, watch_valid rows one.digits id p i)
+
+-- ---- each task
+
+pub asked_with : (words : List Text) (t : Asked) (options : Options) (from : Option Text) → length words ≤ usize_max → AsksWith words t options from → IsTaken words t options from
+asked_with words show options from fits a = plain_asked true show (plain_command true show refl (λ rest. refl) (λ rest p. p) refl) (λ rows. (refl, refl)) show_takes words options from fits a
+asked_with words check options from fits a = plain_asked true check (plain_command true check refl (λ rest. refl) (λ rest p. p) refl) (λ rows. (refl, refl)) check_takes words options from fits a
+asked_with words list_blocks options from fits a = plain_asked true list_blocks (plain_command true list_blocks refl (λ rest. refl) (λ rest p. p) refl) (λ rows. (refl, refl)) list_blocks_takes words options from fits a
+asked_with words rewrite options from fits a = plain_asked false rewrite (plain_command false rewrite refl (λ rest. refl) (λ rest p. p) refl) (λ rows. (refl, refl)) rewrite_takes words options from fits a
+asked_with words publish options from fits a = plain_asked false publish (plain_command false publish refl (λ rest. refl) (λ rest p. p) refl) (λ rows. (refl, refl)) publish_takes words options from fits a
+asked_with words import options from fits a = plain_asked false import (plain_command false import refl (λ rest. refl) (λ rest p. p) refl) (λ rows. (refl, refl)) import_takes words options from fits a
+asked_with words (replay blocks) options from fits a = replay_asked_for blocks words options from fits a
+asked_with words (watch period id) options from fits a = watch_asked_for period id words options from fits a
+asked_with words (losses periods) options from fits a = losses_asked_for periods words options from fits a

@@ -1,5 +1,5 @@
 -- Words without a fault ask for their task by its name alone.
-use Rattle.std.proofs.Common.{◌≡◌, ◌∙◌, ℕ, zero, Bool, true, false, true≢false, List, [], ◌∷◌, ◌++◌, Option, Some, None, option_map, option_and_then, unwrap_or, cond, inl, inr, refl, sym, ap, ap₂, subst, append_assoc}
+use Rattle.std.proofs.Common.{◌≡◌, ◌∙◌, ◌≤◌, arith, ℕ, Bool, true, false, true≢false, List, [], ◌∷◌, ◌++◌, Option, Some, None, option_map, option_and_then, unwrap_or, cond, refl, sym, ap, ap₂, subst, append_assoc, length}
 use Rattle.std.specs.Prelude.{codes, find, fold, if◌then◌else◌, Ok, Err}
 use Rattle.std.specs.Global.{Global}
 use Rattle.std.specs.Option.{option_map_or}
@@ -12,18 +12,21 @@ use Rattle.clap.specs.Faults.{entered_fault, level_fault, walk_fault}
 use Rattle.clap.specs.Simple.{entered, label_of, names_of, rows_at}
 use Rattle.clap.specs.Walk.{Names, Walk, answers_to, idle, nothing_held, rows_after, stop_after, subcommand_met, walk_from, walked}
 use Rattle.clap.proofs.OnLiterals.{clap_on_literals}
-use Rattle.clap.proofs.WalkLemmas.{find-map}
+use Rattle.clap.proofs.WalkLemmas.{both, find-map}
+use Rattle.clap.specs.Lexer.{usize_max}
 use Rattle.block_core.specs.declared.block.Block.{Block}
 use Rattle.loss_core.specs.Periods.{Period}
-use Rattle.words_core.specs.CommandLine.{Asked, Meaning, Subcommand, blocks_in, check, first_bad_block, first_bad_period, import, is_plain, list_blocks, losing, losses, losses_shape, name_of, no_block, no_period, number_said, periods_in, plain, publish, replay, replay_shape, replaying, rewrite, show, subcommands, takes_options, task_asked, watch, watch_shape, watching}
+use Rattle.words_core.specs.CommandLine.{Asked, Meaning, Subcommand, blocks_in, check, first_bad_block, first_bad_period, import, is_plain, list_blocks, losing, losses, losses_shape, name_of, no_block, no_period, number_said, periods_in, plain, publish, replay, replay_shape, replaying, rewrite, show, subcommands, task_asked, watch, watch_shape, watching}
 use Rattle.words_core.proofs.KeptRows.{first_none, leaf, then_none}
 use Rattle.words_core.specs.declared.option_words.Options.{Options}
-use Rattle.words_core.specs.RequestLine.{AsksByNameWith, AsksWith, Switch, Wish, is_on, is_option, is_reading, is_set, offered, options_in, request_asked, request_line, request_of_words, switch_name, with_these}
+use Rattle.words_core.specs.RequestLine.{AreTexts, Argument, AsksWith, Means, SayAll, Switch, Wish, contradict, file, file_asked, file_of_words, given_as, is_set, named_once, offered, options_in, request_asked, request_line, request_of_words, switch, switch_name, takes_argument, text, valued, with_these}
 use Rattle.words_core.proofs.LoneFlags.{AreFlags, help_flag, lone_mark, version_flag}
-use Rattle.words_core.proofs.OptionRows.{once_if, times_of, words_of}
+use Rattle.words_core.proofs.OptionRows.{once_if}
 use Rattle.words_core.proofs.OptionWalks.{dashes}
-use Rattle.words_core.proofs.PlainWords.{IsEnd, given, none_given_at, none_yet, plain_leaf, plain_set}
-use Rattle.words_core.proofs.Switches.{AreAll, an_option, both_false, first_has, is_common, is_on_in}
+use Rattle.words_core.proofs.FoundWords.{IsCommon, IsNone, behind, finds_none, finds_option}
+use Rattle.words_core.proofs.Handled.{is_of, plain_handled, plain_offers, plain_reads}
+use Rattle.words_core.proofs.PlainWords.{IsEnd, leaf_no_index, plain_leaf, plain_leaves, plain_sets}
+use Rattle.words_core.proofs.Switches.{is_on_in}
 
 -- the built command, its words before a subcommand, and the names of its subcommands
 abbrev pub line : App
@@ -51,10 +54,6 @@ no_wish w e = cc
 
 no_pair : (r : Text × List Row) → None ≡ Some r → ⊥
 no_pair r e = cc
-
-all_options : (os : List Switch) → AreAll is_common os → list_all is_option (words_of os) ≡ true
-all_options [] all = refl
-all_options (o ∷ os) all = let taken = first_has is_common o os all in rw (an_option o taken.0) (all_options os taken.1)
 
 -- ---- a subcommand is met by its name
 
@@ -164,49 +163,66 @@ program_flags P none help version test other = go (test help_flag) (test version
 abbrev takes_by_name : Text → Bool
 takes_by_name name = list_any (λ t. bytes_eq (name_of t) name) (show ∷ check ∷ list_blocks ∷ [])
 
--- words behind the name of a subcommand without words of its own are options, each set where it stands, and then
--- nothing or the mark
-record Behind (s : Shape) (words : List Text) : Type 0 where
-  options : List Switch
-  all : AreAll is_common options
+-- words behind the name of a subcommand without words of its own are arguments that it takes, and then nothing or the mark, and the rows
+-- say what is given
+record Behind (t : Asked) (rows : List Row) (words : List Text) : Type 0 where
+  arguments : List Argument
+  line : List Text
   mark : List Text
-  are : words ≡ words_of options ++ mark
+  are : words ≡ line ++ mark
+  say : SayAll arguments line
+  taken : list_all (takes_argument t) arguments ≡ true
   end : IsEnd mark
-  sets : (o : Switch) → times_of o options ≡ (if is_set (switch_name o) (rows_after s.rules [] words) then 1 else 0)
-  none : takes_by_name s.name ≡ false → options ≡ []
+  counts : (o : Switch) → length (given_as (switch_name o) arguments) ≡ (if is_set (switch_name o) rows then 1 else 0)
+  named : given_as (codes "read") arguments ≡ named_once (first_of (codes "read") rows)
 
 abbrev HasOptions : Shape → Type 0
-HasOptions s = (t : Asked) → is_plain t ≡ true → name_of t ≡ s.name → (words : List Text) → list_any is_reading words ≡ false → walk_fault s [] (walk_from nothing_held) words ≡ [] → Behind s words
+HasOptions s = (t : Asked) → is_plain t ≡ true → name_of t ≡ s.name → (words : List Text) → length words ≤ usize_max → AreTexts words → level_fault s [] nothing_held words false [] ≡ []
+    → Behind t (rows_after s.rules [] words) words
 
 abbrev EachHasOptions : List Shape → Type 0
 EachHasOptions [] = Unit {0}
 EachHasOptions (s ∷ rest) = HasOptions s × EachHasOptions rest
 
--- no option is set where none is offered
-unset : (t : Asked) (mark : List Text) → IsEnd mark → (o : Switch) → zero ≡ once_if (is_set (switch_name o) (rows_after (plain_leaf false t).rules [] mark))
-unfolding walked
-unset t mark end o = elim end [
-  | inl e ↦ subst (λ (m : List Text). zero ≡ once_if (is_set (switch_name o) (rows_after (plain_leaf false t).rules [] m))) (sym e) refl
-  | inr e ↦ subst (λ (m : List Text). zero ≡ once_if (is_set (switch_name o) (rows_after (plain_leaf false t).rules [] m))) (sym e) refl
-]
+all_taken : (has also : Argument → Bool) → ((x : Argument) → has x ≡ true → also x ≡ true) → (args : List Argument) → list_all has args ≡ true → list_all also args ≡ true
+all_taken has also so [] e = refl
+all_taken has also so (a ∷ args) e = let parts = both (has a) (list_all has args) e in rw (so a parts.0) (all_taken has also so args parts.1)
+
+-- what a command takes without words of its own
+lists_taken : (t : Asked) → is_plain t ≡ true → (x : Argument) → is_of false x ≡ true → takes_argument t x ≡ true
+lists_taken t e (switch o) g = absurd (true≢false (sym g))
+lists_taken t e (valued name value) g = absurd (true≢false (sym g))
+lists_taken t e (text b) g = absurd (true≢false (sym g))
+lists_taken show e (file name) g = refl
+lists_taken _ e (file name) g = refl
+
+events_taken : (t : Asked) → is_plain t ≡ true → takes_by_name (name_of t) ≡ true → (x : Argument) → is_of true x ≡ true → takes_argument t x ≡ true
+events_taken t e f (valued name value) g = absurd (true≢false (sym g))
+events_taken t e f (text b) g = absurd (true≢false (sym g))
+events_taken show e f (file name) g = refl
+events_taken _ e f (file name) g = refl
+events_taken show e f (switch o) g = g
+events_taken check e f (switch o) g = g
+events_taken list_blocks e f (switch o) g = g
+events_taken rewrite e f (switch o) g = absurd (true≢false (sym f))
+events_taken publish e f (switch o) g = absurd (true≢false (sym f))
+events_taken import e f (switch o) g = absurd (true≢false (sym f))
+events_taken (replay blocks) e f (switch o) g = absurd (true≢false (sym e))
+events_taken (watch period id) e f (switch o) g = absurd (true≢false (sym e))
+events_taken (losses periods) e f (switch o) g = absurd (true≢false (sym e))
 
 plain_has_none : (u : Asked) → HasOptions (plain_leaf false u)
-plain_has_none u t plainly name words r e =
-    let end = none_given_at u words r e in
-    record { options = []; all = refl; mark = words; are = refl; end = end; sets = unset u words end; none = λ f. refl }
+plain_has_none u t plainly name words fits texts e =
+    let b = behind (plain_leaf false u) IsNone (finds_none u) (plain_reads false u) (leaf_no_index false u) (λ o own. absurd own) (is_of false) (λ n. refl) (λ o own. absurd own)
+    (λ all few a g. plain_handled false u all (λ o. few (switch_name o)) (few (codes "read")) a g) (plain_sets false u) (plain_leaves false u) words fits texts e in
+    record { arguments = b.arguments; line = b.line; mark = b.mark; are = b.are; say = b.say; taken = all_taken (is_of false) (takes_argument t) (lists_taken t plainly) b.arguments b.taken; end = b.end; counts = b.counts; named = b.named }
 
 plain_has : (u : Asked) → takes_by_name (name_of u) ≡ true → HasOptions (plain_leaf true u)
-plain_has u takes t plainly name words r e =
-    let g = given u words (λ o. 0) [] none_yet r e in
-    record {
-      options = g.options;
-      all = g.all;
-      mark = g.mark;
-      are = g.are;
-      end = g.end;
-      sets = λ o. subst (λ (w : List Text). times_of o g.options ≡ (if is_set (switch_name o) (rows_after (plain_leaf true u).rules [] w) then 1 else 0)) (sym g.are) (plain_set u g.options g.all g.mark g.end g.new o);
-      none = λ f. absurd (true≢false (sym takes ∙ f));
-    }
+plain_has u takes t plainly name words fits texts e =
+    let b = behind (plain_leaf true u) IsCommon (finds_option u) (plain_reads true u) (leaf_no_index true u) (plain_offers u) (is_of true) (λ n. refl) (λ o own. own)
+    (λ all few a g. plain_handled true u all (λ o. few (switch_name o)) (few (codes "read")) a g) (plain_sets true u) (plain_leaves true u) words fits texts e in
+    let taken = events_taken t plainly (subst (λ (n : Text). takes_by_name n ≡ true) (sym name) takes) in
+    record { arguments = b.arguments; line = b.line; mark = b.mark; are = b.are; say = b.say; taken = all_taken (is_of true) (takes_argument t) taken b.arguments b.taken; end = b.end; counts = b.counts; named = b.named }
 
 -- the name of a task without words of its own is one of these
 abbrev is_plain_name : Text → Bool
@@ -224,7 +240,7 @@ other_name (watch period id) name e other n = true≢false (sym e)
 other_name (losses periods) name e other n = true≢false (sym e)
 
 other_has_none : (s : Shape) → is_plain_name s.name ≡ false → HasOptions s
-other_has_none s other t e n words r f = absurd (other_name t s.name e other n)
+other_has_none s other t e n words fits texts f = absurd (other_name t s.name e other n)
 
 all_have : EachHasOptions line.subs
 all_have = (
@@ -252,48 +268,19 @@ found_has (x ∷ xs) h test s f = go (test x) refl (found_has xs h.1 test s)
     go true u rest = let same : Some x ≡ Some s = rw u at f in subst (HasOptions) (ap (λ (o : Option Shape). unwrap_or o x) same) h.0
     go false u rest = rest (rw u at f)
 
--- the words are the name of a task without words of its own, options, and nothing or the mark
-pub record NamesPlainly (words : List Text) (t : Asked) (options : Options) : Type 0 where
-  pub called : Text
-  pub given : List Switch
-  pub all : AreAll is_common given
-  pub mark : List Text
-  pub are : words ≡ called ∷ name_of t ∷ (words_of given ++ mark)
-  pub end : IsEnd mark
-  pub gives : (o : Switch) → times_of o given ≡ (if is_on options o then 1 else 0)
-  pub none : takes_by_name (name_of t) ≡ false → given ≡ []
-
--- what stands behind the name, with the options of its rows
-record Below (t : Asked) (words : List Text) (rows : List Row) : Type 0 where
-  options : List Switch
-  all : AreAll is_common options
-  mark : List Text
-  are : words ≡ words_of options ++ mark
-  end : IsEnd mark
-  sets : (o : Switch) → times_of o options ≡ (if is_set (switch_name o) rows then 1 else 0)
-  none : takes_by_name (name_of t) ≡ false → options ≡ []
-
-below : (name : Text) (words : List Text) (r : Text × List Row) (t : Asked) → is_plain t ≡ true → name_of t ≡ r.0 → list_any is_reading words ≡ false
-    → entered line (Some (name, words)) ≡ Some r → entered_fault line (Some (name, words)) ≡ [] → Below t words r.1
-below name words r t plainly named reading e f = go (find (λ s. answers_to name (label_of s)) line.subs) refl
+-- what stands behind the name, with the rows of the subcommand that was met
+below : (name : Text) (words : List Text) (r : Text × List Row) (t : Asked) → is_plain t ≡ true → name_of t ≡ r.0 → length words ≤ usize_max → AreTexts words
+    → entered line (Some (name, words)) ≡ Some r → entered_fault line (Some (name, words)) ≡ [] → Behind t r.1 words
+below name words r t plainly named fits texts e f = go (find (λ s. answers_to name (label_of s)) line.subs) refl
   where
-    go : (o : Option Shape) → find (λ s. answers_to name (label_of s)) line.subs ≡ o → Below t words r.1
+    go : (o : Option Shape) → find (λ s. answers_to name (label_of s)) line.subs ≡ o → Behind t r.1 words
     go None g = absurd (no_pair r (rw g at e))
     go (Some s) g =
         let level : level_fault s [] nothing_held words false [] ≡ [] = rw g at f in
         let same : Some (rows_at s words) ≡ Some r = rw g at e in
         let is : s.name ≡ r.0 = ap (λ (o : Option (Text × List Row)). (unwrap_or o r).0) same in
         let rows_are : rows_after s.rules [] words ≡ r.1 = ap (λ (o : Option (Text × List Row)). (unwrap_or o r).1) same in
-        let has = found_has line.subs (all_have) (λ s. answers_to name (label_of s)) s g t plainly (named ∙ sym is) words reading (first_none (walk_fault s [] (walk_from nothing_held) words) _ level) in
-        record {
-          options = has.options;
-          all = has.all;
-          mark = has.mark;
-          are = has.are;
-          end = has.end;
-          sets = λ o. subst (λ (l : List Row). times_of o has.options ≡ (if is_set (switch_name o) l then 1 else 0)) rows_are (has.sets o);
-          none = λ h. has.none (subst (λ (n : Text). takes_by_name n ≡ false) (named ∙ sym is) h);
-        }
+        subst (λ (l : List Row). Behind t l words) rows_are (found_has line.subs (all_have) (λ s. answers_to name (label_of s)) s g t plainly (named ∙ sym is) words fits texts level)
 
 -- ---- the words that ask for a task
 
@@ -306,24 +293,39 @@ parts_none p words f =
     let rest = then_none (walk_fault top names (walk_from nothing_held) words) _ f in
     (first_none (walk_fault top names (walk_from nothing_held) words) _ f, first_none (entered_fault line (stop words)) _ rest)
 
--- a wish is a task and the options of the rows
-wish_parts : (m : Option Meaning) (o : Option Options) (t : Asked) (options : Options) → option_and_then (λ x. option_map (with_these x) m) o ≡ Some (Ok (t, options)) → (m ≡ Some (Ok t)) × (o ≡ Some options)
+-- a wish is a task and the options of the rows, which do not contradict each other
+record WishParts (m : Option Meaning) (o : Option Options) (t : Asked) (options : Options) : Type 0 where
+  task : m ≡ Some (Ok t)
+  given : o ≡ Some options
+  agree : contradict options ≡ false
+
+wish_parts : (m : Option Meaning) (o : Option Options) (t : Asked) (options : Options) → option_and_then (λ x. option_and_then (with_these x) m) o ≡ Some (Ok (t, options)) → WishParts m o t options
 wish_parts m None t options e = cc
 wish_parts None (Some o) t options e = cc
 wish_parts (Some (Err i)) (Some o) t options e = cc
-wish_parts (Some (Ok u)) (Some o) t options e = (
-  ap (λ (w : Option Wish). Some (Ok (wish_or (u, o) w).0)) e,
-  ap (λ (w : Option Wish). Some (wish_or (u, o) w).1) e,
-)
+wish_parts (Some (Ok u)) (Some o) t options e = go (contradict o) refl e
+  where
+    one : Wish
+    one = Ok (u, o)
 
--- options are given where they are set
-gives_by : (os : List Switch) (rows : List Row) (options : Options) → options_in rows ≡ Some options → ((o : Switch) → times_of o os ≡ (if is_set (switch_name o) rows then 1 else 0))
-    → (o : Switch) → times_of o os ≡ (if is_on options o then 1 else 0)
-gives_by os rows options e sets o = sets o ∙ ap once_if (is_on_in rows options e o)
+    go : (b : Bool) → contradict o ≡ b → (if b then None else Some one) ≡ Some (Ok (t, options)) → WishParts (Some (Ok u)) (Some o) t options
+    go true c f = cc
+    go false c f = record {
+      task = ap (λ (w : Option Wish). Some (Ok (wish_or (u, o) w).0)) f;
+      given = ap (λ (w : Option Wish). Some (wish_or (u, o) w).1) f;
+      agree = subst (λ (x : Options). contradict x ≡ false) (ap (λ (w : Option Wish). (wish_or (u, o) w).1) f) c;
+    }
 
-subcommand_asks : (p word name : Text) (words : List Text) (t : Asked) (options : Options) → is_plain t ≡ true → list_any is_reading words ≡ false → subcommand_met names idle word ≡ Some name → fault_of request_line (p ∷ word ∷ words) ≡ []
-    → request_of_words (p ∷ word ∷ words) ≡ Some (Ok (t, options)) → NamesPlainly (p ∷ word ∷ words) t options
-subcommand_asks p word name words t options plainly reading m f e = go (entered line (Some (name, words))) refl
+plain_means : (t : Asked) → is_plain t ≡ true → (arguments : List Argument) → Means t arguments
+plain_means (replay blocks) e arguments = absurd (true≢false (sym e))
+plain_means (watch period id) e arguments = absurd (true≢false (sym e))
+plain_means (losses periods) e arguments = absurd (true≢false (sym e))
+plain_means show e arguments = tt
+plain_means _ e arguments = tt
+
+subcommand_asks : (p word name : Text) (words : List Text) (t : Asked) (options : Options) → is_plain t ≡ true → length words ≤ usize_max → AreTexts words → subcommand_met names idle word ≡ Some name
+    → fault_of request_line (p ∷ word ∷ words) ≡ [] → request_of_words (p ∷ word ∷ words) ≡ Some (Ok (t, options)) → AsksWith (p ∷ word ∷ words) t options (file_of_words (p ∷ word ∷ words))
+subcommand_asks p word name words t options plainly fits texts m f e = go (entered line (Some (name, words))) refl
   where
     met : option_and_then request_asked (entered line (Some (name, words))) ≡ Some (Ok (t, options))
     met = subst (λ (o : Option (Text × List Text)). option_and_then request_asked (entered line o) ≡ Some (Ok (t, options))) (stops word name words m) e
@@ -331,22 +333,28 @@ subcommand_asks p word name words t options plainly reading m f e = go (entered 
     fault : entered_fault line (Some (name, words)) ≡ []
     fault = subst (λ (o : Option (Text × List Text)). entered_fault line o ≡ []) (stops word name words m) (parts_none p (word ∷ words) f).1
 
-    go : (o : Option (Text × List Row)) → entered line (Some (name, words)) ≡ o → NamesPlainly (p ∷ word ∷ words) t options
+    go : (o : Option (Text × List Row)) → entered line (Some (name, words)) ≡ o → AsksWith (p ∷ word ∷ words) t options (file_of_words (p ∷ word ∷ words))
     go None n = absurd (no_wish (Ok (t, options)) (rw n at met))
     go (Some r) n =
-        let both = wish_parts (task_asked r) (options_in r.1) t options (rw n at met) in
-        let named : name_of t ≡ r.0 = for_name r t both.0 in
+        let parts = wish_parts (task_asked r) (options_in r.1) t options (rw n at met) in
+        let named : name_of t ≡ r.0 = for_name r t parts.task in
         let is : word ≡ name_of t = sym (named ∙ (entered_name name words r n ∙ met_name word name names (no_aliases) m)) in
-        let b = below name words r t plainly named reading n fault in
+        let b = below name words r t plainly named fits texts n fault in
+        let from : file_of_words (p ∷ word ∷ words) ≡ first_of (codes "read") r.1 =
+        ap (λ (o : Option (Text × List Text)). option_and_then file_asked (entered line o)) (stops word name words m) ∙ ap (option_and_then file_asked) n in
         record {
           called = p;
-          given = b.options;
-          all = b.all;
+          arguments = b.arguments;
+          line = b.line;
           mark = b.mark;
-          are = ap₂ (λ (w : Text) (l : List Text). p ∷ w ∷ l) is b.are;
+          behind = ap₂ (λ (w : Text) (l : List Text). p ∷ w ∷ l) is b.are;
+          say = b.say;
+          taken = b.taken;
+          give = λ o. b.counts o ∙ ap once_if (is_on_in r.1 options parts.given o);
+          agree = parts.agree;
+          named = b.named ∙ ap named_once (sym from);
+          means = plain_means t plainly b.arguments;
           end = b.end;
-          gives = gives_by b.options r.1 options both.1 b.sets;
-          none = b.none;
         }
 
 mark_asks_nothing : (p : Text) (t : Asked) (options : Options) → request_of_words (p ∷ dashes ∷ []) ≡ Some (Ok (t, options)) → ⊥
@@ -360,50 +368,13 @@ no_task p word words t options m f e =
     mark_asks_nothing p t options
     (subst (λ (rest : List Text). request_of_words (p ∷ dashes ∷ rest) ≡ Some (Ok (t, options))) lone.1 (subst (λ (w : Text). request_of_words (p ∷ w ∷ words) ≡ Some (Ok (t, options))) lone.0 e))
 
--- words without a fault, and of a task without words of its own, name it with its options
-pub words_name : (words : List Text) (t : Asked) (options : Options) → fault_of request_line words ≡ [] → request_of_words words ≡ Some (Ok (t, options)) → is_plain t ≡ true → list_any is_reading words ≡ false → NamesPlainly words t options
-words_name [] t options f e plainly reading = cc
-words_name (p ∷ []) t options f e plainly reading = cc
-words_name (p ∷ word ∷ words) t options f e plainly reading = go (subcommand_met names idle word) refl
+-- words without a fault, and of a task without words of its own, ask for it, with their options over their file
+pub words_ask_with : (words : List Text) (t : Asked) (options : Options) → fault_of request_line words ≡ [] → request_of_words words ≡ Some (Ok (t, options)) → is_plain t ≡ true → length words ≤ usize_max → AreTexts words
+    → AsksWith words t options (file_of_words words)
+words_ask_with [] t options f e plainly fits texts = cc
+words_ask_with (p ∷ []) t options f e plainly fits texts = cc
+words_ask_with (p ∷ word ∷ words) t options f e plainly fits texts = go (subcommand_met names idle word) refl
   where
-    go : (o : Option Text) → subcommand_met names idle word ≡ o → NamesPlainly (p ∷ word ∷ words) t options
-    go (Some name) m = subcommand_asks p word name words t options plainly (both_false _ _ (both_false _ _ reading).1).1 m f e
+    go : (o : Option Text) → subcommand_met names idle word ≡ o → AsksWith (p ∷ word ∷ words) t options (file_of_words (p ∷ word ∷ words))
+    go (Some name) m = subcommand_asks p word name words t options plainly (omega (arith, fits)) texts.1.1 m f e
     go None m = absurd (no_task p word words t options m f e)
-
--- ---- such words ask as the definitions say
-
-asks_with : (words : List Text) (t : Asked) (options : Options) → is_plain t ≡ true → AsksByNameWith words t options → AsksWith words t options
-asks_with words show options e a = a
-asks_with words check options e a = a
-asks_with words rewrite options e a = a
-asks_with words list_blocks options e a = a
-asks_with words publish options e a = a
-asks_with words import options e a = a
-asks_with words (replay blocks) options e a = absurd (true≢false (sym e))
-asks_with words (watch period id) options e a = absurd (true≢false (sym e))
-asks_with words (losses periods) options e a = absurd (true≢false (sym e))
-
-takes_none : (t : Asked) → is_plain t ≡ true → takes_options t ≡ false → takes_by_name (name_of t) ≡ false
-takes_none show e f = absurd (true≢false f)
-takes_none check e f = absurd (true≢false f)
-takes_none rewrite e f = refl
-takes_none list_blocks e f = absurd (true≢false f)
-takes_none publish e f = refl
-takes_none import e f = refl
-takes_none (replay blocks) e f = absurd (true≢false f)
-takes_none (watch period id) e f = absurd (true≢false f)
-takes_none (losses periods) e f = absurd (true≢false f)
-
-pub words_ask_with : (words : List Text) (t : Asked) (options : Options) → fault_of request_line words ≡ [] → request_of_words words ≡ Some (Ok (t, options)) → is_plain t ≡ true → list_any is_reading words ≡ false → AsksWith words t options
-words_ask_with words t options f e plainly reading =
-    let n = words_name words t options f e plainly reading in
-    asks_with words t options plainly (record {
-      called = n.called;
-      given = words_of n.given;
-      mark = n.mark;
-      behind = n.are;
-      are_options = all_options n.given n.all;
-      give = n.gives;
-      taken = λ h. ap words_of (n.none (takes_none t plainly h));
-      end = n.end;
-    })

@@ -12,10 +12,10 @@ pub mod LoneFlags
 pub mod PlainWords
 pub mod AskingWords
 pub mod BlockWords
+pub mod ArgumentRows
+pub mod ArgumentWalks
+pub mod Handled
+pub mod FoundWords
 pub mod NamedWords
-pub mod ReplayWords
-pub mod WatchWords
-pub mod SwitchWords
-pub mod LossesWords
 pub mod AskedWords
 pub mod StandardFacts

@@ -20,7 +20,7 @@ help_flag = with_index 1 (filled help_rule)
 abbrev pub version_flag : Rule
 version_flag = with_index 1 (filled version_rule)
 
-stray : (b : Bool) → cond b (kind.UnknownArgument ∷ []) (kind.UnknownArgument ∷ kind.InvalidSubcommand ∷ []) ≡ [] → ⊥
+pub stray : (b : Bool) → cond b (kind.UnknownArgument ∷ []) (kind.UnknownArgument ∷ kind.InvalidSubcommand ∷ []) ≡ [] → ⊥
 stray true e = cc
 stray false e = cc
 

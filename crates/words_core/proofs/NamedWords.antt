@@ -1,5 +1,5 @@
 -- The words behind the name of a subcommand are its own, and pass where they do.
-use Rattle.std.proofs.Common.{◌≡◌, ◌∙◌, ◌&&◌, ◌||◌, ◌≤◌, ℕ, zero, Bool, true, false, not, List, [], ◌∷◌, ◌++◌, Option, Some, Ok, is_some, option_and_then, option_map, refl, sym, ap, subst, append_assoc, arith}
+use Rattle.std.proofs.Common.{◌≡◌, ◌∙◌, ◌&&◌, ◌||◌, ◌≤◌, ℕ, Bool, true, false, not, List, [], ◌∷◌, ◌++◌, Option, Some, None, Ok, is_some, option_and_then, refl, sym, ap, subst, append_assoc, arith}
 use Rattle.std.specs.Prelude.{codes, fold, if◌then◌else◌}
 use Rattle.std.specs.List.{list_all}
 use Rattle.std.specs.Str.{bytes_eq}
@@ -10,11 +10,10 @@ use Rattle.clap.specs.Takes.{default_passes, entered_passes, is_valid, level_pas
 use Rattle.clap.specs.Walk.{Walk, finished, idle, nothing_held, subcommand_met, walk, walk_from, walked}
 use Rattle.words_core.specs.declared.option_words.Options.{Options}
 use Rattle.words_core.specs.CommandLine.{Asked, Meaning}
-use Rattle.words_core.specs.RequestLine.{Switch, is_on, is_set, options_in, request_line, request_of_words, switch_name, with_these}
+use Rattle.words_core.specs.RequestLine.{Switch, Wish, contradict, file_of_words, is_on, is_set, options_in, request_line, request_of_words, switch_name, with_these}
 use Rattle.words_core.proofs.AskingWords.{line, names, top}
-use Rattle.words_core.proofs.OptionRows.{once_if}
 use Rattle.words_core.proofs.OptionWalks.{both_true}
-use Rattle.words_core.proofs.Switches.{is_off, no_options, options_from, same_options}
+use Rattle.words_core.proofs.Switches.{options_from}
 use Rattle.words_core.proofs.WordLemmas.{simple_line}
 
 abbrev stopped_at : Text → List Text → Walk
@@ -58,29 +57,19 @@ taken_behind called name words met there below =
     (sym (named_walk name words met))
     (both_true _ _ below (rw there (top_passes name words met))))
 
--- words that ask for a task with these options are taken, and it is theirs
-abbrev pub IsTaken : List Text → Asked → Options → Type 0
-IsTaken words t options = (request_of_words words ≡ Some (Ok (t, options))) × (takes request_line words ≡ true)
+-- words that ask for a task with these options over this file are taken, and it is theirs
+abbrev pub IsTaken : List Text → Asked → Options → Option Text → Type 0
+IsTaken words t options from = (request_of_words words ≡ Some (Ok (t, options))) × (takes request_line words ≡ true) × (file_of_words words ≡ from)
 
-pub on_or_off : (a b : Bool) → once_if a ≡ once_if b → a ≡ b
-on_or_off true true e = refl
-on_or_off true false e = absurd (omega (arith, e))
-on_or_off false true e = absurd (omega (arith, e))
-on_or_off false false e = refl
+abbrev no_wish : Option Wish
+no_wish = None
 
--- options of which none is on are none
-pub all_off : (options : Options) → ((o : Switch) → zero ≡ once_if (is_on options o)) → options ≡ no_options
-all_off options none = same_options options no_options (λ o. on_or_off (is_on options o) (is_on no_options o) (sym (none o) ∙ ap once_if (sym (is_off o))))
-
--- options that are set where they are on are these
-set_as_on : (options : Options) (rows : List Row) (n : Switch → ℕ) → ((o : Switch) → n o ≡ (if is_set (switch_name o) rows then 1 else 0)) → ((o : Switch) → n o ≡ (if is_on options o then 1 else 0))
-    → options_in rows ≡ Some options
-set_as_on options rows n sets gives = options_from rows options (λ o. on_or_off (is_set (switch_name o) rows) (is_on options o) (sym (sets o) ∙ gives o))
-
-pub wished : (options : Options) (rows : List Row) (n : Switch → ℕ) (t : Asked) (m : Option Meaning) → m ≡ Some (Ok t) → ((o : Switch) → n o ≡ (if is_set (switch_name o) rows then 1 else 0))
-    → ((o : Switch) → n o ≡ (if is_on options o then 1 else 0)) → option_and_then (λ o. option_map (with_these o) m) (options_in rows) ≡ Some (Ok (t, options))
-wished options rows n t m asks sets gives =
-    ap (option_and_then (λ (o : Options). option_map (with_these o) m)) (set_as_on options rows n sets gives) ∙ ap (option_map (with_these options)) asks
+-- rows that set what is on wish for a task with these options
+pub wished : (options : Options) (rows : List Row) (t : Asked) (m : Option Meaning) → m ≡ Some (Ok t) → ((o : Switch) → is_set (switch_name o) rows ≡ is_on options o) → contradict options ≡ false
+    → option_and_then (λ o. option_and_then (with_these o) m) (options_in rows) ≡ Some (Ok (t, options))
+wished options rows t m asks set agree =
+    ap (option_and_then (λ (o : Options). option_and_then (with_these o) m)) (options_from rows options set) ∙ ap (option_and_then (with_these options)) asks
+    ∙ ap (λ (b : Bool). if b then no_wish else Some (Ok (t, options))) agree
 
 pub at_most : (b : Bool) (n : ℕ) → n ≡ (if b then 1 else 0) → n ≤ 1
 at_most true n e = omega (arith, e)

@@ -9,6 +9,7 @@ use Rattle.words_core.specs.declared.option_words.Writing.{Writing}
 use Rattle.words_core.specs.declared.option_words.Writing.TheVariants.{Lines, Dated, Objects}
 use Rattle.words_core.specs.declared.option_words.Options.{Options}
 use Rattle.words_core.specs.RequestLine.{Wish, file_of_words, options_in, request_faults, request_line, request_of_words, takes_request, task_of_words, word_faults}
+use Rattle.words_core.proofs.Switches.{no_options}
 use Rattle.words_core.specs.CommandLine.{Asked, block_at, check, import, list_blocks, losses, no_block, no_period, publish, replay, replay_of, rewrite, show, watch}
 
 -- each command without arguments asks for its task
@@ -72,7 +73,7 @@ unnamed = record { none = refl; behind_a_file = refl; taken = refl; missing = re
 
 -- a request with these options
 abbrev wishes : Asked → Bool → Bool → Writing → Option Wish
-wishes t is_capture skips_other writes = Some (Ok (t, record { is_capture = is_capture; skips_other = skips_other; unwraps = false; is_raw = false; writes = writes; changes_alone = false; simulates = false }))
+wishes t is_capture skips_other writes = Some (Ok (t, record no_options { is_capture = is_capture; skips_other = skips_other; writes = writes }))
 
 -- the options of words, whatever their task
 abbrev options_of : List Text → Option Options
@@ -80,7 +81,7 @@ options_of words = option_and_then (λ met. options_in met.1) (subcommand_of req
 
 -- a replay's own options
 abbrev replays : Bool → Bool → Option Options
-replays changes_alone simulates = Some (record { is_capture = false; skips_other = false; unwraps = false; is_raw = false; writes = Lines; changes_alone = changes_alone; simulates = simulates })
+replays changes_alone simulates = Some (record no_options { changes_alone = changes_alone; simulates = simulates })
 
 -- the options are those that stand behind the name, in any order, before the mark, once, of a command that takes them, and
 -- none that another excludes
@@ -89,7 +90,7 @@ pub record AreRequests : Type 0 where
   pub one : request_of_words (codes "goose" ∷ codes "show" ∷ codes "--capture" ∷ []) ≡ wishes show true false Lines
   pub both : request_of_words (codes "goose" ∷ codes "check" ∷ codes "--skip-other" ∷ codes "--capture" ∷ codes "--" ∷ []) ≡ wishes check true true Lines
   pub objects : request_of_words (codes "goose" ∷ codes "show" ∷ codes "--json" ∷ []) ≡ wishes show false false Objects
-  pub unwraps : request_of_words (codes "goose" ∷ codes "show" ∷ codes "--unwrap" ∷ codes "--skip-other" ∷ []) ≡ Some (Ok (show, record { is_capture = false; skips_other = true; unwraps = true; is_raw = false; writes = Lines; changes_alone = false; simulates = false }))
+  pub unwraps : request_of_words (codes "goose" ∷ codes "show" ∷ codes "--unwrap" ∷ codes "--skip-other" ∷ []) ≡ Some (Ok (show, record no_options { skips_other = true; unwraps = true }))
   pub dated : request_of_words (codes "goose" ∷ codes "blocks" ∷ codes "--time" ∷ codes "--capture" ∷ []) ≡ wishes list_blocks true false Dated
   pub between : request_of_words (codes "goose" ∷ codes "watch" ∷ codes "--id=A" ∷ codes "--capture" ∷ codes "--period" ∷ codes "2" ∷ []) ≡ wishes (watch 2 (codes "A")) true false Lines
   pub twice : takes request_line (codes "goose" ∷ codes "show" ∷ codes "--capture" ∷ codes "--capture" ∷ []) ≡ false
@@ -100,6 +101,10 @@ pub record AreRequests : Type 0 where
   pub of_another : takes request_line (codes "goose" ∷ codes "rewrite" ∷ codes "--capture" ∷ []) ≡ false
   pub both_forms : request_of_words (codes "goose" ∷ codes "show" ∷ codes "--json" ∷ codes "--time" ∷ []) ≡ None
   pub conflict : request_faults (codes "goose" ∷ codes "show" ∷ codes "--json" ∷ codes "--time" ∷ []) ≡ kind.ArgumentConflict ∷ []
+  pub raw : request_of_words (codes "goose" ∷ codes "show" ∷ codes "--raw" ∷ codes "--capture" ∷ []) ≡ Some (Ok (show, record no_options { is_capture = true; is_raw = true }))
+  pub raw_beside : request_of_words (codes "goose" ∷ codes "check" ∷ codes "--raw" ∷ codes "--skip-other" ∷ []) ≡ None
+  pub raw_also : request_faults (codes "goose" ∷ codes "replay" ∷ codes "--unwrap" ∷ codes "--raw" ∷ []) ≡ kind.ArgumentConflict ∷ []
+  pub raw_behind_a_text : request_of_words (codes "goose" ∷ codes "losses" ∷ codes "--unwrap" ∷ codes "--raw" ∷ codes "--period=1" ∷ []) ≡ Some (Err (no_period 0))
   pub changes : options_of (codes "goose" ∷ codes "replay" ∷ codes "--changes" ∷ codes "0001,G,D,,1,1" ∷ codes "--simulation" ∷ []) ≡ replays true true
   pub simulation : options_of (codes "goose" ∷ codes "replay" ∷ codes "0001,G,D,,1,1" ∷ codes "--simulation" ∷ []) ≡ replays false true
   pub changes_twice : takes request_line (codes "goose" ∷ codes "replay" ∷ codes "--changes" ∷ codes "0001,G,D,,1,1" ∷ codes "--changes" ∷ []) ≡ false
@@ -125,6 +130,10 @@ requests = record {
   of_another = refl;
   both_forms = refl;
   conflict = refl;
+  raw = refl;
+  raw_beside = refl;
+  raw_also = refl;
+  raw_behind_a_text = refl;
   changes = refl;
   simulation = refl;
   changes_twice = refl;

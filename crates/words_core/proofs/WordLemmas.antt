@@ -1,6 +1,6 @@
 -- Words that have no fault name a task, and words that ask for a task are taken.
 use Rattle.std.proofs.Common.{◌≡◌, ◌≢◌, ◌&&◌, ◌⊎◌, ◌∙◌, ℕ, Bool, true, false, not, true≢false, List, [], ◌∷◌, Option, Some, None, Result, Ok, Err, is_some, option_map, option_and_then, unwrap_or, inl, inr, refl, sym, ap, ap₂, subst}
-use Rattle.std.specs.Prelude.{Box, IfOk, IfErr, codes, find}
+use Rattle.std.specs.Prelude.{Box, IfOk, IfErr, codes, find, if◌then◌else◌}
 use Rattle.std.specs.Option.{option_map_or}
 use Rattle.std.specs.Box.{box_value}
 use Rattle.clap.specs.Words.{App, HasKind, IsAmong, Kinds, Row, Shape, Text, all_of, built, fault_of, is_simple, is_simple_and_free, kind_of, subcommand_name_of, subcommand_of, subcommand_rows, subcommand_rows_of, takes}
@@ -20,15 +20,13 @@ use Rattle.words_core.specs.declared.words.Request.{Request}
 use Rattle.words_core.specs.declared.words.Task.{Task}
 use Rattle.words_core.specs.declared.words.WordsError.{WordsError}
 use Rattle.words_core.specs.declared.words.WordsError.TheVariants as refused
-use Rattle.words_core.proofs.AskingWords.{asked_or}
 use Rattle.words_core.proofs.KeptRows.{first_none, leaf, level_checked, then_none}
 use Rattle.words_core.proofs.WatchRows.{watch_says}
 use Rattle.words_core.proofs.LossesRows.{AreInRange, losses_say, texts_in}
 use Rattle.words_core.specs.CommandLine.{AnswersTask, AnswersUnsaid, Asked, HasPeriod, IsNoMistake, IsUnsaid, Meaning, Unsaid, asked_by, blocks_in, check, first_bad_block, import, is_plain, list_blocks, losses, losses_of, losses_shape, names_blocks, no_block, no_period, plain, publish, replay, replay_of, replay_shape, rewrite, show, task_asked, watch, watch_shape}
-use Rattle.std.specs.List.{list_any}
-use Rattle.words_core.specs.RequestLine.{AnswersRequest, Asks, AsksWith, MayRefuseRequest, MayRefuseWords, RefusesUnsaid, Wish, is_reading, meaning_names_blocks, offered, options_in, request_asked, request_faults, request_line, request_of_words, takes_request, takes_words, task_of_words, with_these, word_faults}
+use Rattle.words_core.specs.RequestLine.{AnswersAsked, AnswersRequest, Asks, AsksWith, MayRefuseRequest, MayRefuseWords, RefusesUnsaid, Wish, contradict, file_of_words, meaning_names_blocks, offered, options_in, request_asked, request_faults, request_line, request_of_words, takes_request, takes_words, task_of_words, with_these, word_faults}
 use Rattle.words_core.specs.computed.PrivateCalls.{MayAnswer}
-use Rattle.words_core.specs.computed.OfferedLine.{IsExclusion, IsUnnamed, MayGrant}
+use Rattle.words_core.specs.computed.OfferedLine.{Excludes, IsExclusion, IsUnnamed, MayGrant}
 
 -- where a subcommand is required and the last checks pass, there is one
 checked : (has help required argument : Bool) → required ≡ true → check_kinds (not has && help) (not has && required) argument ≡ [] → has ≡ true
@@ -228,7 +226,8 @@ pub answers_found : (words : List Text) (answer : Answer) → MayGrant (request_
 answers_found words answer may = go (request_of_words words) refl answer may
   where
     go : (o : Option Wish) → request_of_words words ≡ o → (a : Answer) → MayGrant o (Some a) → IfOk a (Granted words)
-    go None e a m = absurd m
+    go None e (Ok r) m = absurd m
+    go None e (Err u) m = tt
     go (Some (Ok t)) e (Ok r) m = e ∙ ap₂ (λ (u : Asked) (o : Options). Some (Ok (u, o))) (sym m.0) (sym m.1)
     go (Some (Ok t)) e (Err u) m = tt
     go (Some (Err i)) e (Ok r) m = absurd m
@@ -237,31 +236,45 @@ answers_found words answer may = go (request_of_words words) refl answer may
 pub granted_faultless : (words : List Text) (r : Request) → fault_of request_line words ≡ [] → Granted words r → request_faults words ≡ []
 granted_faultless words r none granted = wish_no_mistake words (Ok (asked_by r.task, r.options)) none granted
 
-pub answers_refused : (words : List Text) (answer : Answer) → fault_of request_line words ≡ [] → MayGrant (request_of_words words) (Some answer)
-    → IfErr answer (λ e. MayRefuseRequest words e × IsNoMistake e)
-answers_refused words answer none may = go (request_of_words words) refl answer may
-  where
-    go : (o : Option Wish) → request_of_words words ≡ o → (a : Answer) → MayGrant o (Some a) → IfErr a (λ e. MayRefuseRequest words e × IsNoMistake e)
-    go None e a m = absurd m
-    go (Some (Ok t)) e (Ok r) m = tt
-    go (Some (Ok t)) e (Err u) m = subst (λ (w : WordsError). MayRefuseRequest words w × IsNoMistake w) (sym m) (tt, tt)
-    go (Some (Err i)) e (Ok r) m = absurd m
-    go (Some (Err u)) e (Err (refused.Words error)) m = absurd m
-    go (Some (Err u)) e (Err (refused.Block i)) m = ((wish_no_mistake words (Err u) none e, e ∙ ap (λ (k : Unsaid). Some (Err k)) (sym m)), tt)
-    go (Some (Err u)) e (Err (refused.Period i)) m = ((wish_no_mistake words (Err u) none e, e ∙ ap (λ (k : Unsaid). Some (Err k)) (sym m)), tt)
-    go (Some (Err u)) e (Err refused.Memory) m = (tt, tt)
-
--- where nothing is answered, nothing is wished for
-pub no_wish : (w : Option Wish) → MayGrant w None → w ≡ None
-no_wish None may = refl
-no_wish (Some wish) may = absurd may
-
 -- words without a fault that wish for nothing have options that exclude each other
 pub excluded : (words : List Text) (e : WordsError) → fault_of request_line words ≡ [] → request_of_words words ≡ None → IsExclusion e → MayRefuseRequest words e
 excluded words (refused.Words error) none nothing is = rw (none, nothing) (inl is)
 excluded words (refused.Block i) none nothing is = absurd is
 excluded words (refused.Period i) none nothing is = absurd is
 excluded words refused.Memory none nothing is = tt
+
+pub answers_refused : (words : List Text) (answer : Answer) → fault_of request_line words ≡ [] → MayGrant (request_of_words words) (Some answer) → IfErr answer (MayRefuseRequest words)
+answers_refused words answer none may = go (request_of_words words) refl answer may
+  where
+    go : (o : Option Wish) → request_of_words words ≡ o → (a : Answer) → MayGrant o (Some a) → IfErr a (MayRefuseRequest words)
+    go None e (Ok r) m = absurd m
+    go None e (Err u) m = excluded words u none e m
+    go (Some (Ok t)) e (Ok r) m = tt
+    go (Some (Ok t)) e (Err u) m = subst (MayRefuseRequest words) (sym m) tt
+    go (Some (Err i)) e (Ok r) m = absurd m
+    go (Some (Err u)) e (Err (refused.Words error)) m = absurd m
+    go (Some (Err u)) e (Err (refused.Block i)) m = (wish_no_mistake words (Err u) none e, e ∙ ap (λ (k : Unsaid). Some (Err k)) (sym m))
+    go (Some (Err u)) e (Err (refused.Period i)) m = (wish_no_mistake words (Err u) none e, e ∙ ap (λ (k : Unsaid). Some (Err k)) (sym m))
+    go (Some (Err u)) e (Err refused.Memory) m = tt
+
+-- and where the words wish for something, they are not what is wrong
+pub answers_sure : (words : List Text) (answer : Answer) → MayGrant (request_of_words words) (Some answer) → is_some (request_of_words words) ≡ true → IfErr answer IsNoMistake
+answers_sure words answer may = go (request_of_words words) answer may
+  where
+    go : (o : Option Wish) (a : Answer) → MayGrant o (Some a) → is_some o ≡ true → IfErr a IsNoMistake
+    go None a m some = absurd (true≢false (sym some))
+    go (Some (Ok t)) (Ok r) m some = tt
+    go (Some (Ok t)) (Err u) m some = subst IsNoMistake (sym m) tt
+    go (Some (Err i)) (Ok r) m some = absurd m
+    go (Some (Err u)) (Err (refused.Words error)) m some = absurd m
+    go (Some (Err u)) (Err (refused.Block i)) m some = tt
+    go (Some (Err u)) (Err (refused.Period i)) m some = tt
+    go (Some (Err u)) (Err refused.Memory) m some = tt
+
+-- where nothing is answered, nothing is wished for
+pub no_wish : (w : Option Wish) → MayGrant w None → w ≡ None
+no_wish None may = refl
+no_wish (Some wish) may = absurd may
 
 -- and there are none such where they agree
 pub agreed : (words : List Text) → fault_of request_line words ≡ [] → request_of_words words ≡ None → is_some (request_of_words words) ≡ true → ⊥
@@ -273,14 +286,18 @@ agreed words none nothing agrees = true≢false (sym agrees ∙ ap is_some nothi
 pub task_wished : (words : List Text) (t : Asked) (options : Options) → request_of_words words ≡ Some (Ok (t, options)) → task_of_words words ≡ Some (Ok t)
 task_wished words t options e = go (subcommand_of request_line words) e
   where
-    wished : (m : Option Meaning) (o : Options) → option_map (with_these o) m ≡ Some (Ok (t, options)) → m ≡ Some (Ok t)
-    wished None o f = cc
-    wished (Some (Ok u)) o f = ap (λ (w : Option Wish). Some (Ok (task_or u w))) f
-    wished (Some (Err i)) o f = cc
+    one : Asked → Options → Wish
+    one u o = Ok (u, o)
 
-    by : (m : Option Meaning) (x : Option Options) → option_and_then (λ o. option_map (with_these o) m) x ≡ Some (Ok (t, options)) → m ≡ Some (Ok t)
+    agreed_so : (u : Asked) (o : Options) (b : Bool) → (if b then None else Some (one u o)) ≡ Some (Ok (t, options)) → u ≡ t
+    agreed_so u o true f = cc
+    agreed_so u o false f = ap (λ (w : Option Wish). task_or u w) f
+
+    by : (m : Option Meaning) (x : Option Options) → option_and_then (λ o. option_and_then (with_these o) m) x ≡ Some (Ok (t, options)) → m ≡ Some (Ok t)
     by m None f = cc
-    by m (Some o) f = wished m o f
+    by None (Some o) f = cc
+    by (Some (Ok u)) (Some o) f = ap (λ (v : Asked). Some (Ok v)) (agreed_so u o (contradict o) f)
+    by (Some (Err i)) (Some o) f = cc
 
     go : (met : Option (Text × List Row)) → option_and_then request_asked met ≡ Some (Ok (t, options)) → option_and_then task_asked met ≡ Some (Ok t)
     go None f = cc
@@ -289,14 +306,18 @@ task_wished words t options e = go (subcommand_of request_line words) e
 pub unsaid_wished : (words : List Text) (i : Unsaid) → request_of_words words ≡ Some (Err i) → task_of_words words ≡ Some (Err i)
 unsaid_wished words i e = go (subcommand_of request_line words) e
   where
-    wished : (m : Option Meaning) (o : Options) → option_map (with_these o) m ≡ Some (Err i) → m ≡ Some (Err i)
-    wished None o f = cc
-    wished (Some (Ok u)) o f = cc
-    wished (Some (Err j)) o f = ap (λ (w : Option Wish). Some (Err (unsaid_in j w))) f
+    one : Asked → Options → Wish
+    one u o = Ok (u, o)
 
-    by : (m : Option Meaning) (x : Option Options) → option_and_then (λ o. option_map (with_these o) m) x ≡ Some (Err i) → m ≡ Some (Err i)
+    disagreed : (u : Asked) (o : Options) (b : Bool) → (if b then None else Some (one u o)) ≡ Some (Err i) → ⊥
+    disagreed u o true f = cc
+    disagreed u o false f = cc
+
+    by : (m : Option Meaning) (x : Option Options) → option_and_then (λ o. option_and_then (with_these o) m) x ≡ Some (Err i) → m ≡ Some (Err i)
     by m None f = cc
-    by m (Some o) f = wished m o f
+    by None (Some o) f = cc
+    by (Some (Ok u)) (Some o) f = absurd (disagreed u o (contradict o) f)
+    by (Some (Err j)) (Some o) f = ap (λ (w : Option Wish). Some (Err (unsaid_in j w))) f
 
     go : (met : Option (Text × List Row)) → option_and_then request_asked met ≡ Some (Err i) → option_and_then task_asked met ≡ Some (Err i)
     go None f = cc
@@ -321,15 +342,13 @@ unsaid_alone words u (refused.Period i) none bad may =
     let same : no_meaning (no_period i) ≡ Some (Err u) = sym (unsaid_wished words (no_period i) may.1) ∙ bad in ap (λ (m : Option Meaning). unsaid_or (no_period i) m) same
 unsaid_alone words u refused.Memory none bad may = tt
 
-pub one_task : (t u : Asked) → a_meaning t ≡ Some (Ok u) → t ≡ u
-one_task t u e = ap (λ (m : Option Meaning). asked_or t m) e
-
 -- what `read_request` says of its answers
 pub answered_plainly : (words : List Text) (answer : Answer) → IfOk answer (λ r. request_faults words ≡ []) → IfOk answer (Granted words)
-    → ((t : Asked) (options : Options) → fault_of request_line words ≡ [] → request_of_words words ≡ Some (Ok (t, options)) → is_plain t ≡ true → list_any is_reading words ≡ false → AsksWith words t options)
-    → IfOk answer (λ r. is_plain (asked_by r.task) ≡ true → list_any is_reading words ≡ false → AsksWith words (asked_by r.task) r.options)
-answered_plainly words (Ok r) none granted asks = asks (asked_by r.task) r.options (first_none (fault_of request_line words) _ none) granted
-answered_plainly words (Err e) none granted asks = tt
+    → ((t : Asked) (options : Options) → fault_of request_line words ≡ [] → request_of_words words ≡ Some (Ok (t, options)) → is_plain t ≡ true → AsksWith words t options (file_of_words words))
+    → IfOk answer (λ r. option_map (λ s. s.now) r.file ≡ file_of_words words) → IfOk answer (λ r. is_plain (asked_by r.task) ≡ true → AsksWith words (asked_by r.task) r.options (option_map (λ s. s.now) r.file))
+answered_plainly words (Ok r) none granted asks from =
+    λ plainly. subst (AsksWith words (asked_by r.task) r.options) (sym from) (asks (asked_by r.task) r.options (first_none (fault_of request_line words) _ none) granted plainly)
+answered_plainly words (Err e) none granted asks from = tt
 
 pub answered_period : (words : List Text) (answer : Answer) → IfOk answer (λ r. request_faults words ≡ []) → IfOk answer (Granted words) → IfOk answer (λ r. HasPeriod (asked_by r.task))
 answered_period words (Ok r) none granted = asked_period words (asked_by r.task) (first_none (fault_of request_line words) _ none) (task_wished words (asked_by r.task) r.options granted)
@@ -342,6 +361,12 @@ pub request_granted : (words : List Text) (t : Asked) (options : Options) (answe
     → IfErr answer IsNoMistake → request_of_words words ≡ Some (Ok (t, options)) → AnswersRequest t options answer
 request_granted words t options (Ok r) granted may sure wish = one_wish (asked_by r.task) t r.options options (sym granted ∙ wish)
 request_granted words t options (Err e) granted may sure wish = memory_alone words t e (task_wished words t options wish) may sure
+
+-- and with the file of the words
+pub with_file : (words : List Text) (t : Asked) (options : Options) (from : Option Text) (answer : Answer) → AnswersRequest t options answer → IfOk answer (λ r. option_map (λ s. s.now) r.file ≡ file_of_words words)
+    → file_of_words words ≡ from → AnswersAsked t options from answer
+with_file words t options from (Ok r) granted same file = (granted.0, granted.1, same ∙ file)
+with_file words t options from (Err e) granted same file = granted
 
 pub unsaid_refused : (words : List Text) (u : Unsaid) (answer : Answer) → IfOk answer (Granted words) → IfErr answer (MayRefuseRequest words) → request_faults words ≡ []
     → request_of_words words ≡ Some (Err u) → RefusesUnsaid u answer
@@ -372,14 +397,14 @@ abbrev pub Named : Task → Result Task WordsError → Type 0
 Named t answer = IfOk answer (λ u. (u ≡ t) × (names_blocks (asked_by t) ≡ true)) × IfErr answer (λ e. IsUnnamed e × (names_blocks (asked_by t) ≡ false))
 
 module _ (words : List Text) (t : Task) (options : Options) where
-  pub words_found : (answer : Result Task WordsError) → Named t answer → (is_plain (asked_by t) ≡ true → list_any is_reading words ≡ false → AsksWith words (asked_by t) options)
-      → IfOk answer (λ u. is_plain (asked_by u) ≡ true → list_any is_reading words ≡ false → Asks words (asked_by u))
-  words_found (Ok u) n asks = subst (λ (x : Task). is_plain (asked_by x) ≡ true → list_any is_reading words ≡ false → Asks words (asked_by x)) (sym n.0.0) (λ plainly reading. (options, n.0.1, asks plainly reading))
-  words_found (Err e) n asks = tt
+  pub words_found : (from : Option Text) (answer : Result Task WordsError) → Named t answer → (is_plain (asked_by t) ≡ true → AsksWith words (asked_by t) options from)
+      → IfOk answer (λ u. is_plain (asked_by u) ≡ true → Asks words (asked_by u))
+  words_found from (Ok u) n asks = subst (λ (x : Task). is_plain (asked_by x) ≡ true → Asks words (asked_by x)) (sym n.0.0) (λ plainly. (options, from, n.0.1, asks plainly))
+  words_found from (Err e) n asks = tt
 
-  pub words_only : (answer : Result Task WordsError) → Named t answer → ((asked : Asked) (given : Options) → AsksWith words asked given → asked_by t ≡ asked) → (asked : Asked) → Asks words asked → AnswersTask asked answer
-  words_only (Ok u) n only asked asks = ap asked_by n.0.0 ∙ only asked asks.0 asks.2
-  words_only (Err e) n only asked asks = absurd (true≢false (sym asks.1 ∙ ap names_blocks (sym (only asked asks.0 asks.2)) ∙ n.1.1))
+  pub words_only : (answer : Result Task WordsError) → Named t answer → ((asked : Asked) (given : Options) (from : Option Text) → AsksWith words asked given from → asked_by t ≡ asked) → (asked : Asked) → Asks words asked → AnswersTask asked answer
+  words_only (Ok u) n only asked asks = ap asked_by n.0.0 ∙ only asked asks.0 asks.1 asks.3
+  words_only (Err e) n only asked asks = absurd (true≢false (sym asks.2 ∙ ap names_blocks (sym (only asked asks.0 asks.1 asks.3)) ∙ n.1.1))
 
   -- what holds of the task holds of the one that is answered
   pub words_as : (Is : Task → Type 0) (answer : Result Task WordsError) → Named t answer → Is t → IfOk answer Is
@@ -420,12 +445,20 @@ free_line = refl
 
 -- ---- a task becomes a request
 
-pub grants : (m : Option Meaning) (o : Options) (a : Result Task WordsError) (r : Answer) → ((t : Asked) → AnswersTask t a → AnswersRequest t o r) → ((u : Unsaid) → AnswersUnsaid u a → RefusesUnsaid u r)
-    → MayAnswer m (Some a) → MayGrant (option_map (with_these o) m) (Some r)
-grants None o a r answered refuses may = absurd may
-grants (Some (Ok t)) o a r answered refuses may = answered t may
-grants (Some (Err i)) o a r answered refuses may = refuses i may
+pub grants : (m : Option Meaning) (o : Options) (a : Result Task WordsError) (r : Answer) → ((t : Asked) → AnswersTask t a → contradict o ≡ false → AnswersRequest t o r)
+    → ((t : Asked) → AnswersTask t a → contradict o ≡ true → Excludes r) → ((u : Unsaid) → AnswersUnsaid u a → RefusesUnsaid u r)
+    → MayAnswer m (Some a) → MayGrant (option_and_then (with_these o) m) (Some r)
+grants None o a r answered excludes refuses may = absurd may
+grants (Some (Ok t)) o a r answered excludes refuses may = go (contradict o) refl
+  where
+    one : Wish
+    one = Ok (t, o)
 
-pub grants_none : (m : Option Meaning) (o : Options) → MayAnswer m None → MayGrant (option_map (with_these o) m) None
+    go : (b : Bool) → contradict o ≡ b → MayGrant (if b then None else Some one) (Some r)
+    go true c = excludes t may c
+    go false c = answered t may c
+grants (Some (Err i)) o a r answered excludes refuses may = refuses i may
+
+pub grants_none : (m : Option Meaning) (o : Options) → MayAnswer m None → MayGrant (option_and_then (with_these o) m) None
 grants_none None o may = tt
 grants_none (Some meaning) o may = absurd may

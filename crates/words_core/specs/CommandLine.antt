@@ -1,11 +1,10 @@
 -- The command line of the program: the task of each subcommand, and why words may be refused.
-use Rattle.std.specs.Prelude.{◌≡◌, ◌==◌, ◌⊎◌, ℕ, pos, true, false, not, Bool, List, [], ◌∷◌, ◌++◌, map}
+use Rattle.std.specs.Prelude.{◌≡◌, ◌==◌, ◌⊎◌, ℕ, pos, true, false, not, Bool, List, [], ◌∷◌, ◌++◌}
 use Rattle.std.specs.Prelude.{filter_map, find, position, Option, Some, None, Result, Ok, Err, MatchResult, is_some, option_and_then, option_map, unwrap_or, codes, if◌then◌else◌}
 use Rattle.std.specs.Global.{Global}
-use Rattle.std.specs.List.{list_any}
 use Rattle.std.specs.Option.{option_map_or}
 use Rattle.std.specs.Str.{bytes_eq}
-use Rattle.std.specs.Str.Parse.{IsNumeral, digits_value, without_leading_plus}
+use Rattle.std.specs.Str.Parse.{digits_value, without_leading_plus}
 use Rattle.clap.specs.Lexer.{usize_max}
 use Rattle.clap.specs.Words.{App, Row, Rule, Shape, Text, all_of, first_of, new_app, new_rule, one_of, with_rule}
 use Rattle.clap.specs.ValueTests.{is_unsigned_in}
@@ -256,37 +255,15 @@ abbrev pub is_flag : Text → Bool
 is_flag [] = false
 is_flag (c ∷ cs) = c == 45
 
--- the program's name, `replay`, and then texts, or none, none of which begins with a hyphen, which
--- say these control blocks in order
-abbrev pub AsksReplay : List Text → List (Block Global) → Type 0
-AsksReplay (called ∷ word ∷ texts) blocks = (word ≡ codes "replay") × (list_any is_flag texts ≡ false) × (map block_at texts ≡ map Some blocks)
-AsksReplay _ blocks = ⊥
+-- a value in a word of its own: it begins with no hyphen (45), or is one alone
+abbrev pub IsValue : Text → Type 0
+IsValue value = (is_flag value ≡ false) ⊎ (value ≡ 45 ∷ [])
 
--- an option by its name and this value: as two words, where the value begins with no hyphen, or as one with
--- `=` (61) between them
+-- an option by its name and this value: as two words, or as one with `=` (61) between them
 abbrev pub SaysOption : Text → Text → List Text → Type 0
 SaysOption name value (word ∷ []) = word ≡ name ++ (61 ∷ value)
-SaysOption name value (word ∷ text ∷ []) = (word ≡ name) × (text ≡ value) × (is_flag value ≡ false)
+SaysOption name value (word ∷ text ∷ []) = (word ≡ name) × (text ≡ value) × IsValue value
 SaysOption name value _ = ⊥
-
--- two options, one behind the other, in either order
-abbrev pub SayBoth : Text → Text → Text → Text → List Text → List Text → Type 0
-SayBoth name value other_name other_value first second =
-    (SaysOption name value first × SaysOption other_name other_value second)
-    ⊎ (SaysOption other_name other_value first × SaysOption name value second)
-
--- the program's name, `watch`, and then its two options: decimal digits that say the period, which is one that
--- a watch may have, and the svID
-pub record AsksWatch (words : List Text) (period : ℕ) (id : Text) : Type 0 where
-  pub called : Text
-  pub first : List Text
-  pub second : List Text
-  pub behind : words ≡ called ∷ codes "watch" ∷ (first ++ second)
-  pub digits : Text
-  pub options : SayBoth (codes "--period") digits (codes "--id") id first second
-  pub are_digits : IsNumeral 10 digits
-  pub number : digits_value 10 digits ≡ period
-  pub range : IsPeriod period
 
 -- the words themselves are not what is wrong
 abbrev pub IsNoMistake : WordsError → Type 0

@@ -1,8 +1,8 @@
 //! The options of the commands that read events, beside words of their own: on the input, and on what is written.
-ghost use Rattle.std.specs.Prelude.{◌≡◌, fold, true, false};
+ghost use Rattle.std.specs.Prelude.{◌≡◌, fold, is_some, map, true, false};
 ghost use Rattle.clap.specs.Words.{App, Rule, found_of, rows_of, rule_of, with_rule, with_subcommand};
 ghost use Rattle.words_core.specs.CommandLine.{option_named};
-ghost use Rattle.words_core.specs.RequestLine.{is_set, options_in, read_rule, switch_rules, writing_by};
+ghost use Rattle.words_core.specs.RequestLine.{contradict, is_set, options_in, read_rule, writing_by};
 ghost use Rattle.words_core.specs.computed.OfferedLine.{IsApp, IsLocal, offering};
 
 use clap::{Arg, ArgAction, ArgMatches, Command};
@@ -41,24 +41,44 @@ pub struct Options {
 /// A command, where memory for it is granted.
 pub type Made<'a> = Result<Command<'a>, AllocError>;
 
-// What the help says of `--capture`.
-const CAPTURE_HELP: &str = "Reads a capture (classic or pcapng) in place of a list";
-
-// What the help says of `--skip-other`.
-const SKIP_OTHER_HELP: &str =
-    "Takes frames of other EtherTypes as a sign that time passes, and counts them";
-
-// What the help says of `--unwrap`.
-const UNWRAP_HELP: &str = "Looks at frames without HSR tags, and without VLAN tags before another";
-
-// What the help says of `--raw`.
-const RAW_HELP: &str = "With -r: passes over no frames, and looks at them with all tags";
-
-// What the help says of `--time`.
-const TIME_HELP: &str = "Begins each line with the date of its event, in UTC";
-
-// What the help says of `--json`.
-const JSON_HELP: &str = "Writes JSON objects, one a line, in place of text";
+// The options without a value that each command over events takes: the name, and what the help says of it. What stands above each is for
+// the manual page.
+const OPTIONS: [(&str, &str); 6] = [
+    // Read a capture of any length in place of a list, in the classic libpcap format or in pcapng, which Wireshark saves.
+    // Its packets are numbered from 1, as in Wireshark (which also numbers journal, custom and sysdig blocks). A packet of
+    // another link type than Ethernet tells only that time has passed; standard error says at the end how many there were
+    // of each.
+    (
+        "capture",
+        "Reads a capture (classic or pcapng) in place of a list",
+    ),
+    // Take frames of other EtherTypes, which are errors otherwise, however long they are, as a sign that time passes.
+    // Standard error says at the end how many there were of each, and which was the first.
+    (
+        "skip-other",
+        "Takes frames of other EtherTypes as a sign that time passes, and counts them",
+    ),
+    // Look at frames without the HSR tags of a ring (IEC 62439-3), and without each VLAN tag before another, as a
+    // provider's network puts them. Offsets count in what is left. With --skip-other frames are unwrapped first.
+    (
+        "unwrap",
+        "Looks at frames without HSR tags, and without VLAN tags before another",
+    ),
+    // With -r: pass over no frames of other protocols, and look at frames with all tags.
+    (
+        "raw",
+        "With -r: passes over no frames, and looks at them with all tags",
+    ),
+    // Begin each line with the date of the event that it is about, in UTC, as `2023-11-14T22:13:20.250000Z`, and a space.
+    // There is a `-` in its place where a line is about no event, or the time is past the year 9999.
+    (
+        "time",
+        "Begins each line with the date of its event, in UTC",
+    ),
+    // Write an object of JSON for each line, one a line, with the fields of the line by their names, with dates, and with
+    // values of floating-point numbers.
+    ("json", "Writes JSON objects, one a line, in place of text"),
+];
 
 // What the help says of `--read`.
 const READ_HELP: &str = "Reads FILE in place of standard input, which - stands for";
@@ -98,17 +118,16 @@ pub fn with_arg<'a>(command: Made<'a>, arg: Arg<'a>) -> Made<'a>
     }
 }
 
-// The command with the options.
-fn with_each<'a>(alloc: Global, command: Made<'a>) -> Made<'a>
-    ensures app { (a : App) → IsApp a command.entry → IsApp (fold with_rule a switch_rules) result }
+// The command with these options, each by its name and what the help says of it.
+fn with_each<'a>(alloc: Global, command: Made<'a>, options: &'a [(&'a str, &'a str)]) -> Made<'a>
+    ensures app { (a : App) → IsApp a command.entry → IsApp (fold with_rule a (map (λ o. option_named o.0.now) options.now)) result }
     ensures local { IsLocal command.entry → IsLocal result }
 {
-    let command = with_arg(command, flag_option(alloc, "capture", CAPTURE_HELP));
-    let command = with_arg(command, flag_option(alloc, "skip-other", SKIP_OTHER_HELP));
-    let command = with_arg(command, flag_option(alloc, "unwrap", UNWRAP_HELP));
-    let command = with_arg(command, flag_option(alloc, "raw", RAW_HELP));
-    let command = with_arg(command, flag_option(alloc, "time", TIME_HELP));
-    with_arg(command, flag_option(alloc, "json", JSON_HELP))
+    let mut command = command;
+    for (name, help) in options {
+        command = with_arg(command, flag_option(alloc, name, help));
+    }
+    command
 }
 
 // The command with the name of a file, and with the options, where it takes them.
@@ -118,7 +137,7 @@ fn with_options<'a>(alloc: Global, command: Made<'a>, takes_options: bool) -> Ma
 {
     let command = with_arg(command, read_option(alloc));
     if takes_options {
-        with_each(alloc, command)
+        with_each(alloc, command, &OPTIONS)
     } else {
         command
     }
@@ -167,26 +186,31 @@ fn writing_by(has_dates: bool, has_objects: bool) -> Option<Writing>
     }
 }
 
-/// The options of the matches of a subcommand, or none where two exclude each other.
+/// The options of the matches of a subcommand, or none where dates stand beside objects.
 pub fn options_met(matches: &ArgMatches<'_>) -> Option<Options>
     ensures { result ≡ options_in (rows_of (found_of matches.now)) }
 {
-    let is_capture = is_set(matches, "capture");
-    let skips_other = is_set(matches, "skip-other");
-    let unwraps = is_set(matches, "unwrap");
-    let is_raw = is_set(matches, "raw");
-    let changes_alone = is_set(matches, "changes");
-    let simulates = is_set(matches, "simulation");
-    match writing_by(is_set(matches, "time"), is_set(matches, "json")) {
-        Some(writes) => Some(Options {
-            is_capture,
-            skips_other,
-            unwraps,
-            is_raw,
-            writes,
-            changes_alone,
-            simulates,
-        }),
-        None => None,
+    let writes = writing_by(is_set(matches, "time"), is_set(matches, "json"))?;
+    Some(Options {
+        is_capture: is_set(matches, "capture"),
+        skips_other: is_set(matches, "skip-other"),
+        unwraps: is_set(matches, "unwrap"),
+        is_raw: is_set(matches, "raw"),
+        writes,
+        changes_alone: is_set(matches, "changes"),
+        simulates: is_set(matches, "simulation"),
+    })
+}
+
+/// What is told of options that contradict each other: frames are to be taken as they are, and something is to be done to them too.
+pub fn contradiction(options: Options) -> Option<&'static str>
+    ensures { is_some result ≡ contradict options }
+{
+    if options.is_raw && options.skips_other {
+        Some("the argument '--raw' cannot be used with '--skip-other'")
+    } else if options.is_raw && options.unwraps {
+        Some("the argument '--raw' cannot be used with '--unwrap'")
+    } else {
+        None
     }
 }

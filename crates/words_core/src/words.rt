@@ -1,18 +1,19 @@
 //! The command line of the program `goose`. The parser of words, `clap`, is called here alone.
-ghost use Rattle.std.specs.Prelude.{◌≡◌, ◌≢◌, ℕ, true, false, codes, fold, is_some, map, option_map, Some, [], IfOk, IfErr, IfSome, Err, Ok, option_and_then};
-ghost use Rattle.std.specs.List.{list_any};
-ghost use Rattle.clap.specs.Words.{App, all_of, app_of, first_of, found_of, kind_of, new_app, rows_of, rule_of, subcommand_rows_of, takes, with_subcommand};
+ghost use Rattle.std.specs.Prelude.{◌≡◌, ◌≢◌, ℕ, true, false, codes, fold, is_some, map, option_map, Option, Some, [], IfOk, IfErr, IfSome, Err, Ok, option_and_then};
+ghost use Rattle.clap.specs.Words.{App, Text, all_of, app_of, first_of, found_of, kind_of, new_app, rows_of, rule_of, subcommand_rows_of, takes, with_subcommand};
 ghost use Rattle.clap.specs.Walk.{texts};
 ghost use Rattle.clap.specs.declared.error.kind.ErrorKind.TheVariants.{OutOfMemory};
 ghost use Rattle.words_core.specs.CommandLine.{AnswersTask, AnswersUnsaid, Asked, HasPeriod, IsNoMistake, Unsaid};
 ghost use Rattle.words_core.specs.CommandLine.{asked_by, bare_program, block_rule, id_rule, is_plain, losing, losses_asked, names_blocks};
 ghost use Rattle.words_core.specs.CommandLine.{losses_of, name_of, period_rule, readers, replay_asked, replay_of, replaying, stream_period_rule, task_asked, watch, watch_asked, watching};
 ghost use Rattle.words_core.specs.computed.PrivateCalls.{AnswersWords, MayAnswer};
-ghost use Rattle.words_core.specs.RequestLine.{AnswersRequest, Asks, AsksWith, MayRefuseRequest, MayRefuseWords, RefusesUnsaid, file_asked, file_of_words};
-ghost use Rattle.words_core.specs.RequestLine.{is_reading, offered, request_asked, request_faults, request_line, request_of_words, takes_request, takes_words, task_of_words, word_faults};
-ghost use Rattle.words_core.specs.computed.OfferedLine.{IsApp, IsExclusion, IsLocal, IsUnnamed, MayGrant};
+ghost use Rattle.words_core.specs.RequestLine.{AnswersAsked, AnswersRequest, AreTexts, Asks, AsksWith, MayRefuseRequest, MayRefuseWords, RefusesUnsaid, contradict, file_asked, file_of_words};
+ghost use Rattle.words_core.specs.RequestLine.{offered, request_asked, request_faults, request_line, request_of_words, takes_request, takes_words, task_of_words, word_faults};
+ghost use Rattle.words_core.specs.computed.OfferedLine.{Excludes, IsApp, IsExclusion, IsLocal, IsUnnamed, MayGrant};
 
-use crate::option_words::{Made, Options, flag_option, options_met, with_arg, with_offering};
+use crate::option_words::{
+    Made, Options, contradiction, flag_option, options_met, with_arg, with_offering,
+};
 use crate::period_words::{PeriodError, read_period};
 use block_core::{Block, BlockError, read_block};
 use clap::error::ErrorKind;
@@ -100,7 +101,7 @@ pub enum WordsError {
     Memory,
 }
 
-// What is told of options that exclude each other.
+// What is told of dates beside objects.
 const EXCLUDED: &str = "the argument '--time' cannot be used with '--json'";
 
 // What the help of `show` and of `blocks` ends with: they find nothing to be told by a status.
@@ -490,27 +491,41 @@ fn task_of(alloc: Global, name: &str, matches: &ArgMatches<'_>) -> Option<Result
     }
 }
 
-// The request of a task, where there is one.
+// The words are refused by options that exclude each other. A rule of `clap` on them would cost what it promises of the other faults.
+fn exclusion(alloc: Global, text: &str) -> WordsError
+    ensures { IsExclusion result }
+{
+    let mut program = Command::new(alloc, "goose").override_usage("goose <COMMAND> [OPTIONS]");
+    match program.error(ErrorKind::ArgumentConflict, text) {
+        Ok(error) => WordsError::Words(error),
+        Err(_) => WordsError::Memory,
+    }
+}
+
+// The request of a task, where there is one, and its options do not contradict each other.
 fn with_these<'a>(
+    alloc: Global,
     answer: Result<Task, WordsError>,
     options: Options,
     file: Option<&'a str>,
 ) -> Result<Request<'a>, WordsError>
     ensures file { IfOk result (λ r. option_map (λ s. s.now) r.file ≡ option_map (λ s. s.now) file.entry) }
-    ensures answered { (asked : Asked) → AnswersTask asked answer → AnswersRequest asked options result }
+    ensures answered { (asked : Asked) → AnswersTask asked answer → contradict options ≡ false → AnswersRequest asked options result }
+    ensures excluded { (asked : Asked) → AnswersTask asked answer → contradict options ≡ true → Excludes result }
     ensures refused { (unsaid : Unsaid) → AnswersUnsaid unsaid answer → RefusesUnsaid unsaid result }
 {
-    match answer {
-        Ok(task) => Ok(Request {
+    let task = answer?;
+    match contradiction(options) {
+        Some(text) => Err(exclusion(alloc, text)),
+        None => Ok(Request {
             task,
             options,
             file,
         }),
-        Err(error) => Err(error),
     }
 }
 
-// The request of a subcommand's name and its matches; none where options exclude each other.
+// The request of a subcommand's name and its matches; none where dates stand beside objects.
 fn request_of<'a>(
     alloc: Global,
     name: &str,
@@ -522,12 +537,12 @@ fn request_of<'a>(
     let options = options_met(matches)?;
     let file = matches.get_str("read");
     match task_of(alloc, name, matches) {
-        Some(answer) => Some(with_these(answer, options, file)),
+        Some(answer) => Some(with_these(alloc, answer, options, file)),
         None => None,
     }
 }
 
-// The request of the subcommand that the words named; none where options exclude each other.
+// The request of the subcommand that the words named; none where dates stand beside objects.
 fn request_met<'a>(
     alloc: Global,
     matches: &ArgMatches<'a>,
@@ -552,17 +567,6 @@ fn refusal(error: clap::Error) -> WordsError
     }
 }
 
-// What is told of options that exclude each other. A rule of `clap` on them would cost what it promises of the other faults.
-fn exclusion(alloc: Global) -> WordsError
-    ensures { IsExclusion result }
-{
-    let mut program = Command::new(alloc, "goose").override_usage("goose <COMMAND> [OPTIONS]");
-    match program.error(ErrorKind::ArgumentConflict, EXCLUDED) {
-        Ok(error) => WordsError::Words(error),
-        Err(_) => WordsError::Memory,
-    }
-}
-
 // The request that the words make.
 fn read_line<'a>(alloc: Global, words: &'a [&'a str]) -> Result<Request<'a>, WordsError>
     ensures file { IfOk result (λ r. option_map (λ s. s.now) r.file ≡ file_of_words (texts words.now)) }
@@ -578,26 +582,35 @@ fn read_line<'a>(alloc: Global, words: &'a [&'a str]) -> Result<Request<'a>, Wor
         Ok(matches) => match request_met(alloc, &matches) {
             Some(answer) => answer,
             // A subcommand is required, and each has its task.
-            None => Err(exclusion(alloc)),
+            None => Err(exclusion(alloc, EXCLUDED)),
         },
         Err(error) => Err(refusal(error)),
     }
 }
 
-/// The task that the words ask for, its options, `--capture`, `--skip-other`, `--unwrap`, `--raw`, `--time` and `--json`, which the commands
-/// `show`, `check`, `blocks`, `replay`, `watch` and `losses` take, and `--changes` and `--simulation` of `replay` alone, and the
-/// file that it is to read, `-r` or `--read`, which all take. The first word is the program's name. Where `replay` has no BLOCK, the
-/// task is a replay of no control block: it is for the caller to take those of the file, or to refuse.
+// What is known of words once their octets are read: each is text.
+fn know_texts(words: &[&str])
+    ensures { AreTexts (texts words.now) }
+{
+    for word in words {
+        let _octets = word.as_bytes();
+    }
+}
+
+/// The task that the words ask for, its options, which the commands `show`, `check`, `blocks`, `replay`, `watch` and `losses` take, `replay`
+/// two more than the others, and the file that it is to read, `-r` or `--read`, which all take. The first word is the program's name. Where
+/// `replay` has no BLOCK, the task is a replay of no control block: it is for the caller to take those of the file, or to refuse.
 ///
 /// # Errors
 ///
 /// `Words` where the words have a mistake or ask for help or the version; `Block` where they ask for a
-/// replay and some text says no control block; `Period` where they ask for losses and some text says no period; `Memory` where memory is refused. An option that is given twice is a
-/// mistake, and so is one of another command, or `--time` beside `--json`.
+/// replay and some text says no control block; `Period` where they ask for losses and some text says no period; `Memory` where memory is
+/// refused. An option that is given twice is a mistake, and so is one of another command, or two that exclude each other: `--time` beside
+/// `--json`, and `--raw` beside `--skip-other` or `--unwrap`.
 pub fn read_request<'a>(alloc: Global, words: &'a [&'a str]) -> Result<Request<'a>, WordsError>
-    ensures found { IfOk result (λ r. is_plain (asked_by r.task) ≡ true → list_any is_reading (texts words.now) ≡ false → AsksWith (texts words.now) (asked_by r.task) r.options) }
+    ensures found { IfOk result (λ r. is_plain (asked_by r.task) ≡ true → AsksWith (texts words.now) (asked_by r.task) r.options (option_map (λ s. s.now) r.file)) }
     ensures file { IfOk result (λ r. option_map (λ s. s.now) r.file ≡ file_of_words (texts words.now)) }
-    ensures only { (asked : Asked) (options : Options) → AsksWith (texts words.now) asked options → AnswersRequest asked options result }
+    ensures only { (asked : Asked) (options : Options) (from : Option Text) → AsksWith (texts words.now) asked options from → AnswersAsked asked options from result }
     ensures period { IfOk result (λ r. HasPeriod (asked_by r.task)) }
     ensures request { IfOk result (λ r. request_of_words (texts words.now) ≡ Some (Ok (asked_by r.task, r.options))) }
     ensures faultless { IfOk result (λ r. request_faults (texts words.now) ≡ []) }
@@ -605,6 +618,7 @@ pub fn read_request<'a>(alloc: Global, words: &'a [&'a str]) -> Result<Request<'
     ensures refused { IfErr result (MayRefuseRequest (texts words.now)) }
     ensures unsaid { (unsaid : Unsaid) → request_faults (texts words.now) ≡ [] → request_of_words (texts words.now) ≡ Some (Err unsaid) → RefusesUnsaid unsaid result }
 {
+    know_texts(words);
     read_line(alloc, words)
 }
 
@@ -651,7 +665,7 @@ fn with_blocks(alloc: Global, task: Task) -> Result<Task, WordsError>
 ///
 /// As of [`read_request`], and `Words` for a replay without a BLOCK.
 pub fn read_words<'a>(alloc: Global, words: &'a [&'a str]) -> Result<Task, WordsError>
-    ensures found { IfOk result (λ t. is_plain (asked_by t) ≡ true → list_any is_reading (texts words.now) ≡ false → Asks (texts words.now) (asked_by t)) }
+    ensures found { IfOk result (λ t. is_plain (asked_by t) ≡ true → Asks (texts words.now) (asked_by t)) }
     ensures only { (asked : Asked) → Asks (texts words.now) asked → AnswersTask asked result }
     ensures named { IfOk result (λ t. names_blocks (asked_by t) ≡ true) }
     ensures period { IfOk result (λ t. HasPeriod (asked_by t)) }

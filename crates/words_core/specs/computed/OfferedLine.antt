@@ -1,5 +1,5 @@
 -- What private calls promise of `clap`'s commands, and of what they answer.
-use Rattle.std.specs.Prelude.{◌≡◌, Bool, false, Option, Some, None, Result, IfOk, Ok, Err}
+use Rattle.std.specs.Prelude.{◌≡◌, Bool, false, Option, Some, None, Result, IfOk, MatchResult, Ok, Err}
 use Rattle.std.specs.declared.alloc.AllocError.{AllocError}
 use Rattle.clap.specs.Words.{App, app_of, kind_of}
 use Rattle.clap.specs.declared.error.kind.ErrorKind.TheVariants as kind
@@ -28,6 +28,10 @@ IsExclusion (refused.Block i) = ⊥
 IsExclusion (refused.Period i) = ⊥
 IsExclusion refused.Memory = Unit {0}
 
+-- no request is answered: options exclude each other, or memory was refused
+abbrev pub Excludes : Result Request WordsError → Type 0
+Excludes answer = MatchResult answer (λ r. ⊥) IsExclusion
+
 -- a replay has no control block, or memory was refused
 abbrev pub IsUnnamed : WordsError → Type 0
 IsUnnamed (refused.Words error) = kind_of error ≡ kind.MissingRequiredArgument
@@ -40,8 +44,9 @@ abbrev pub AnswersWish : Wish → Result Request WordsError → Type 0
 AnswersWish (Ok wish) answer = AnswersRequest wish.0 wish.1 answer
 AnswersWish (Err unsaid) answer = RefusesUnsaid unsaid answer
 
--- the same, where something is wished for
+-- the same, where something is wished for; else options exclude each other
 abbrev pub MayGrant : Option Wish → Option (Result Request WordsError) → Type 0
 MayGrant None None = Unit {0}
+MayGrant None (Some answer) = Excludes answer
 MayGrant (Some wish) (Some answer) = AnswersWish wish answer
-MayGrant _ _ = ⊥
+MayGrant (Some wish) None = ⊥

@@ -1,11 +1,11 @@
 use Rattle.std.proofs.Common.{◌≡◌, ◌∙◌, [], List, Option, Some, None, option_and_then, sym, ap, subst}
 use Rattle.std.specs.Prelude.{IfOk, IfSome, option_map}
-use Rattle.std.proofs.lemmas.Result.{IfErr-weaker, IfOk-weaker}
+use Rattle.std.proofs.lemmas.Result.{IfOk-weaker}
 use Rattle.clap.specs.Words.{App, HasKind, Row, Text, fault_of, is_simple, is_simple_and_free, subcommand_of, takes}
 use Rattle.clap.specs.Walk.{texts}
 use Rattle.words_core.specs.CommandLine.{IsNoMistake}
 use Rattle.words_core.specs.computed.OfferedLine.{MayGrant}
-use Rattle.words_core.proofs.WordLemmas.{agreed, answers_found, answers_refused, excluded, free_line, granted_faultless, may_refuse, no_wish, simple_line}
+use Rattle.words_core.proofs.WordLemmas.{agreed, answers_found, answers_refused, answers_sure, excluded, free_line, granted_faultless, may_refuse, no_wish, simple_line}
 use Rattle.words_core.proofs.words.read_line.Goals as goal
 use Rattle.words_core.specs.RequestLine.{file_asked, request_asked, request_line, request_of_words}
 
@@ -36,7 +36,7 @@ returns-in-Some-clause-taken c = λ taken agrees.
     let rows = (c.in-Ok-try_get_matches_from.ensures.matches (ap is_simple c.in-Ok.ensures ∙ simple_line)).1 ∙ ap (λ (a : App). subcommand_of a words) c.in-Ok.ensures in
     let none : fault_of request_line words ≡ [] = subst (λ (a : App). fault_of a words ≡ []) c.in-Ok.ensures (c.in-Ok-try_get_matches_from.ensures.kinds (ap is_simple_and_free c.in-Ok.ensures ∙ free_line)) in
     let may : MayGrant (request_of_words words) (Some c.in-Some.answer) = rw c.in-Some.is at (subst (λ (o : Option (Text × List Row)). MayGrant (option_and_then request_asked o) c.request_met.result) rows c.request_met.ensures.request) in
-    IfErr-weaker c.in-Some.answer _ _ (λ e h. h.1) (answers_refused words c.in-Some.answer none may)
+    answers_sure words c.in-Some.answer may agrees
 
 pub returns-in-Some-clause-refused : goal.returns-in-Some-clause-refused
 returns-in-Some-clause-refused c =
@@ -44,7 +44,7 @@ returns-in-Some-clause-refused c =
     let rows = (c.in-Ok-try_get_matches_from.ensures.matches (ap is_simple c.in-Ok.ensures ∙ simple_line)).1 ∙ ap (λ (a : App). subcommand_of a words) c.in-Ok.ensures in
     let none : fault_of request_line words ≡ [] = subst (λ (a : App). fault_of a words ≡ []) c.in-Ok.ensures (c.in-Ok-try_get_matches_from.ensures.kinds (ap is_simple_and_free c.in-Ok.ensures ∙ free_line)) in
     let may : MayGrant (request_of_words words) (Some c.in-Some.answer) = rw c.in-Some.is at (subst (λ (o : Option (Text × List Row)). MayGrant (option_and_then request_asked o) c.request_met.result) rows c.request_met.ensures.request) in
-    IfErr-weaker c.in-Some.answer _ _ (λ e h. h.0) (answers_refused words c.in-Some.answer none may)
+    answers_refused words c.in-Some.answer none may
 
 pub returns-in-Ok-try_get_matches_from-clause-taken : goal.returns-in-Ok-try_get_matches_from-clause-taken
 returns-in-Ok-try_get_matches_from-clause-taken c = λ taken agrees.

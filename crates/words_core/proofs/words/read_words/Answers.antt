@@ -8,11 +8,11 @@ use Rattle.words_core.proofs.WordLemmas.{refused_so, task_wished, words_as, word
 use Rattle.words_core.proofs.words.read_words.Goals as goal
 
 pub returns-in-Ok-clause-found : goal.returns-in-Ok-clause-found
-returns-in-Ok-clause-found c = words_found (texts c.args.words.now) c.in-Ok.request.task c.in-Ok.request.options c.with_blocks.result (c.with_blocks.ensures.named, c.with_blocks.ensures.unnamed) c.in-Ok.ensures.found
+returns-in-Ok-clause-found c = words_found (texts c.args.words.now) c.in-Ok.request.task c.in-Ok.request.options _ c.with_blocks.result (c.with_blocks.ensures.named, c.with_blocks.ensures.unnamed) c.in-Ok.ensures.found
 
 pub returns-in-Ok-clause-only : goal.returns-in-Ok-clause-only
 returns-in-Ok-clause-only c =
-    words_only (texts c.args.words.now) c.in-Ok.request.task c.in-Ok.request.options c.with_blocks.result (c.with_blocks.ensures.named, c.with_blocks.ensures.unnamed) (λ asked given asks. (c.in-Ok.ensures.only asked given asks).0)
+    words_only (texts c.args.words.now) c.in-Ok.request.task c.in-Ok.request.options c.with_blocks.result (c.with_blocks.ensures.named, c.with_blocks.ensures.unnamed) (λ asked given from asks. (c.in-Ok.ensures.only asked given from asks).0)
 
 pub returns-in-Ok-clause-named : goal.returns-in-Ok-clause-named
 returns-in-Ok-clause-named c = words_named (texts c.args.words.now) c.in-Ok.request.task c.in-Ok.request.options c.with_blocks.result (c.with_blocks.ensures.named, c.with_blocks.ensures.unnamed)
@@ -41,7 +41,7 @@ pub returns-in-Ok-clause-unsaid : goal.returns-in-Ok-clause-unsaid
 returns-in-Ok-clause-unsaid c = λ i faultless bad. absurd (c.in-Ok.ensures.unsaid i faultless bad)
 
 pub returns-in-Err-clause-only : goal.returns-in-Err-clause-only
-returns-in-Err-clause-only c = λ wish asks. c.in-Err.ensures.only wish asks.0 asks.2
+returns-in-Err-clause-only c = λ wish asks. c.in-Err.ensures.only wish asks.0 asks.1 asks.3
 
 pub returns-in-Err-clause-refused : goal.returns-in-Err-clause-refused
 returns-in-Err-clause-refused c = refused_so (texts c.args.words.now) c.in-Err.error c.in-Err.ensures.refused

@@ -1,0 +1,433 @@
+-- Arguments lead a walk over their words from rows that hold those before to rows that hold them too.
+use Rattle.std.proofs.Common.{◌≡◌, ◌∙◌, ◌+◌, ◌≤◌, ◌⊎◌, ◌==◌, ℕ, zero, suc, Bool, true, false, not, true≢false, List, [], ◌∷◌, ◌++◌, length, Some, None, inl, inr, refl, sym, ap, subst, arith, append_assoc, length-append}
+use Rattle.std.specs.Prelude.{codes, fold, if◌then◌else◌}
+use Rattle.std.specs.List.{list_all}
+use Rattle.std.specs.Str.{bytes_eq, chars}
+use Rattle.std.specs.Char.{encode_utf8}
+use Rattle.std.proofs.lemmas.List.{append-nil}
+use Rattle.std.proofs.lemmas.List.Sums.{fold-append}
+use Rattle.clap.specs.Lexer.{usize_max}
+use Rattle.clap.specs.Words.{Row, Rule, Shape, Text}
+use Rattle.clap.specs.Takes.{default_passes, flags_pass, is_valid, level_passes, settle_passes, turn_passes, use_passes, walk_passes}
+use Rattle.clap.specs.declared.builder.value_parser.Reading.{Reading}
+use Rattle.clap.proofs.WalkLemmas.{both}
+use Rattle.std.proofs.lemmas.Slice.Eq.{bytes_eq-Decides}
+use Rattle.clap.specs.Walk.{Held, Waiting, Walk, arg_by_id, arg_by_long, arg_by_short, bundle_met, finished, has_row, idle, nothing_held, option, positional, reading_by, rows_after, used, walk, walk_from, walked, with_default}
+use Rattle.words_core.specs.CommandLine.{IsValue, SaysOption, is_flag}
+use Rattle.words_core.specs.RequestLine.{Argument, SayAll, Says, SaysByLetter, Switch, argument_name, argument_text, file, given_as, is_attached, is_set, switch_name}
+use Rattle.words_core.proofs.ArgumentRows.{Hold, are_true, hold_more, how_read, no_row, none_before, puts, row_for}
+use Rattle.words_core.proofs.OptionRows.{read_flag, set_by, switch_flag}
+use Rattle.words_core.proofs.OptionWalks.{Pending, between, both_true, dashes, held, passes_behind, settled_to, settles, state}
+use Rattle.words_core.proofs.PlainWords.{IsEnd}
+
+-- ---- where a walk stands
+
+abbrev pub is_free : Waiting → Bool
+is_free (option id) = false
+is_free _ = true
+
+abbrev pub size_of : Pending → ℕ
+size_of None = 0
+size_of (Some p) = length p.1
+
+-- between two arguments, at rows that are these with what is pending, of which there are at most so many texts
+pub record Stands (s : Shape) (w : Walk) (rows_so : List Row) (n : ℕ) : Type 0 where
+  pub waiting : Waiting
+  pub rows : List Row
+  pub pending : Pending
+  pub is : w ≡ state waiting rows pending
+  pub free : is_free waiting ≡ true
+  pub settled : settled_to s rows pending ≡ rows_so
+  pub settling : settles s rows pending ≡ true
+  pub few : size_of pending ≤ n
+
+-- words pass, and lead there
+pub record Went (s : Shape) (w : Walk) (words : List Text) (rows_so : List Row) (n : ℕ) : Type 0 where
+  pub stands : Stands s (fold (walked s.rules []) w words) rows_so n
+  pub passes : walk_passes s [] w words ≡ true
+
+-- ---- an argument with a text, in one word or in two
+
+pub record Joins (s : Shape) (a : Rule) (t word : Text) : Type 0 where
+  pub walks : (waiting : Waiting) (rows : List Row) (pending : Pending) → walked s.rules [] (state waiting rows pending) word ≡ between (used a (t ∷ []) (settled_to s rows pending)) None
+  pub passes : (waiting : Waiting) (rows : List Row) (pending : Pending) → settles s rows pending ≡ true → use_passes false a (t ∷ []) (settled_to s rows pending) ≡ true
+      → turn_passes s [] (state waiting rows pending) word ≡ true
+
+pub record Announces (s : Shape) (a : Rule) (t word : Text) : Type 0 where
+  pub walks : (waiting : Waiting) (rows : List Row) (pending : Pending)
+      → walked s.rules [] (walked s.rules [] (state waiting rows pending) word) t ≡ between (settled_to s rows pending) (Some (a.id, t ∷ []))
+  pub passes : (waiting : Waiting) (rows : List Row) (pending : Pending) → settles s rows pending ≡ true → walk_passes s [] (state waiting rows pending) (word ∷ t ∷ []) ≡ true
+  pub settled : (rows : List Row) → settled_to s rows (Some (a.id, t ∷ [])) ≡ used a (t ∷ []) rows
+  pub settling : (rows : List Row) → use_passes false a (t ∷ []) rows ≡ true → settles s rows (Some (a.id, t ∷ [])) ≡ true
+
+abbrev pub Spelled : Shape → Rule → Text → List Text → Type 0
+Spelled s a t words = ((word : Text) × (words ≡ word ∷ []) × Joins s a t word) ⊎ ((word : Text) × (words ≡ word ∷ t ∷ []) × Announces s a t word)
+
+joined_goes : (s : Shape) (a : Rule) (t word : Text) → Joins s a t word → (w : Walk) (rows_so : List Row) (n : ℕ) → Stands s w rows_so n → use_passes false a (t ∷ []) rows_so ≡ true
+    → Went s w (word ∷ []) (used a (t ∷ []) rows_so) (n + 1)
+unfolding walk_passes
+joined_goes s a t word j w rows_so n st pass =
+    let pass_here = subst (λ (r : List Row). use_passes false a (t ∷ []) r ≡ true) (sym st.settled) pass in
+    record {
+      stands = record {
+        waiting = idle;
+        rows = used a (t ∷ []) (settled_to s st.rows st.pending);
+        pending = None;
+        is = ap (λ (x : Walk). walked s.rules [] x word) st.is ∙ j.walks st.waiting st.rows st.pending;
+        free = refl;
+        settled = ap (used a (t ∷ [])) st.settled;
+        settling = refl;
+        few = omega arith;
+      };
+      passes = both_true _ _ (subst (λ (x : Walk). turn_passes s [] x word ≡ true) (sym st.is) (j.passes st.waiting st.rows st.pending st.settling pass_here)) refl;
+    }
+
+announced_goes : (s : Shape) (a : Rule) (t word : Text) → Announces s a t word → (w : Walk) (rows_so : List Row) (n : ℕ) → Stands s w rows_so n → use_passes false a (t ∷ []) rows_so ≡ true
+    → Went s w (word ∷ t ∷ []) (used a (t ∷ []) rows_so) (n + 2)
+announced_goes s a t word j w rows_so n st pass =
+    let pass_here = subst (λ (r : List Row). use_passes false a (t ∷ []) r ≡ true) (sym st.settled) pass in
+    record {
+      stands = record {
+        waiting = idle;
+        rows = settled_to s st.rows st.pending;
+        pending = Some (a.id, t ∷ []);
+        is = ap (λ (x : Walk). walked s.rules [] (walked s.rules [] x word) t) st.is ∙ j.walks st.waiting st.rows st.pending;
+        free = refl;
+        settled = j.settled (settled_to s st.rows st.pending) ∙ ap (used a (t ∷ [])) st.settled;
+        settling = j.settling (settled_to s st.rows st.pending) pass_here;
+        few = omega arith;
+      };
+      passes = subst (λ (x : Walk). walk_passes s [] x (word ∷ t ∷ []) ≡ true) (sym st.is) (j.passes st.waiting st.rows st.pending st.settling);
+    }
+
+pub spelled_goes : (s : Shape) (a : Rule) (t : Text) (words : List Text) → Spelled s a t words → (w : Walk) (rows_so : List Row) (n : ℕ) → Stands s w rows_so n → use_passes false a (t ∷ []) rows_so ≡ true
+    → Went s w words (used a (t ∷ []) rows_so) (n + length words)
+spelled_goes s a t words (inl j) w rows_so n st pass =
+    subst (λ (l : List Text). Went s w l (used a (t ∷ []) rows_so) (n + length l)) (sym j.1) (joined_goes s a t j.0 j.2 w rows_so n st pass)
+spelled_goes s a t words (inr j) w rows_so n st pass =
+    subst (λ (l : List Text). Went s w l (used a (t ∷ []) rows_so) (n + length l)) (sym j.1) (announced_goes s a t j.0 j.2 w rows_so n st pass)
+
+-- an option by its name in its two forms
+pub says_option : (s : Shape) (a : Rule) (name t : Text) → Joins s a t (name ++ (61 ∷ t)) → (IsValue t → Announces s a t name) → (words : List Text) → SaysOption name t words → Spelled s a t words
+says_option s a name t j k [] says = absurd says
+says_option s a name t j k (word ∷ []) says = inl (name ++ (61 ∷ t), ap (λ (x : Text). x ∷ []) says, j)
+says_option s a name t j k (word ∷ next ∷ []) says =
+    inr (name, ap (λ (x : Text). x ∷ next ∷ []) says.0 ∙ ap (λ (x : Text). name ∷ x ∷ []) says.1, k says.2)
+says_option s a name t j k (word ∷ next ∷ x ∷ more) says = absurd says
+
+-- ---- the name of a file
+
+module _ (s : Shape) (by_long : arg_by_long s.rules (codes "read") ≡ Some read_flag) (by_short : arg_by_short s.rules 114 ≡ Some read_flag)
+    (by_id : arg_by_id s.rules (codes "read") ≡ Some read_flag) (again : s.args_override_self ≡ false) where
+  long_joins : (t : Text) → Joins s read_flag t (codes "--read" ++ (61 ∷ t))
+  unfolding walked
+  long_joins t = record { walks = walks; passes = passes }
+    where
+      walks : (waiting : Waiting) (rows : List Row) (pending : Pending) → walked s.rules [] (state waiting rows pending) (codes "--read" ++ (61 ∷ t)) ≡ between (used read_flag (t ∷ []) (settled_to s rows pending)) None
+      walks idle rows pending = rw by_long refl
+      walks (option id) rows pending = rw by_long refl
+      walks positional rows pending = rw by_long refl
+
+      passes : (waiting : Waiting) (rows : List Row) (pending : Pending) → settles s rows pending ≡ true → use_passes false read_flag (t ∷ []) (settled_to s rows pending) ≡ true
+          → turn_passes s [] (state waiting rows pending) (codes "--read" ++ (61 ∷ t)) ≡ true
+      passes idle rows pending k u = rw by_long (rw again (rw (k, u) refl))
+      passes (option id) rows pending k u = rw by_long (rw again (rw (k, u) refl))
+      passes positional rows pending k u = rw by_long (rw again (rw (k, u) refl))
+
+  long_announces : (t : Text) → IsValue t → Announces s read_flag t (codes "--read")
+  unfolding walked walk_passes
+  long_announces t v = record { walks = walks t v; passes = passes t v; settled = λ rows. rw by_id refl; settling = λ rows u. rw by_id u }
+    where
+      plain : (x : Text) → is_flag x ≡ false → (waiting : Waiting) (rows : List Row) (pending : Pending)
+          → walked s.rules [] (walked s.rules [] (state waiting rows pending) (codes "--read")) x ≡ between (settled_to s rows pending) (Some (codes "read", x ∷ []))
+      plain [] e idle rows pending = rw by_long (rw by_id refl)
+      plain (c ∷ cs) e idle rows pending = rw by_long (rw e (rw e (rw by_id refl)))
+      plain [] e (option id) rows pending = rw by_long (rw by_id refl)
+      plain (c ∷ cs) e (option id) rows pending = rw by_long (rw e (rw e (rw by_id refl)))
+      plain [] e positional rows pending = rw by_long (rw by_id refl)
+      plain (c ∷ cs) e positional rows pending = rw by_long (rw e (rw e (rw by_id refl)))
+
+      hyphen : (waiting : Waiting) (rows : List Row) (pending : Pending)
+          → walked s.rules [] (walked s.rules [] (state waiting rows pending) (codes "--read")) (45 ∷ []) ≡ between (settled_to s rows pending) (Some (codes "read", (45 ∷ []) ∷ []))
+      hyphen idle rows pending = rw by_long (rw by_id refl)
+      hyphen (option id) rows pending = rw by_long (rw by_id refl)
+      hyphen positional rows pending = rw by_long (rw by_id refl)
+
+      walks : (x : Text) → IsValue x → (waiting : Waiting) (rows : List Row) (pending : Pending)
+          → walked s.rules [] (walked s.rules [] (state waiting rows pending) (codes "--read")) x ≡ between (settled_to s rows pending) (Some (codes "read", x ∷ []))
+      walks x (inl e) waiting rows pending = plain x e waiting rows pending
+      walks x (inr e) waiting rows pending =
+          subst (λ (y : Text). walked s.rules [] (walked s.rules [] (state waiting rows pending) (codes "--read")) y ≡ between (settled_to s rows pending) (Some (codes "read", y ∷ []))) (sym e) (hyphen waiting rows pending)
+
+      plain_passes : (x : Text) → is_flag x ≡ false → (waiting : Waiting) (rows : List Row) (pending : Pending) → settles s rows pending ≡ true → walk_passes s [] (state waiting rows pending) (codes "--read" ∷ x ∷ []) ≡ true
+      plain_passes [] e idle rows pending k = rw by_long (rw again (rw k refl))
+      plain_passes (c ∷ cs) e idle rows pending k = rw by_long (rw again (rw (k, e) (rw e refl)))
+      plain_passes [] e (option id) rows pending k = rw by_long (rw again (rw k refl))
+      plain_passes (c ∷ cs) e (option id) rows pending k = rw by_long (rw again (rw (k, e) (rw e refl)))
+      plain_passes [] e positional rows pending k = rw by_long (rw again (rw k refl))
+      plain_passes (c ∷ cs) e positional rows pending k = rw by_long (rw again (rw (k, e) (rw e refl)))
+
+      hyphen_passes : (waiting : Waiting) (rows : List Row) (pending : Pending) → settles s rows pending ≡ true → walk_passes s [] (state waiting rows pending) (codes "--read" ∷ (45 ∷ []) ∷ []) ≡ true
+      hyphen_passes idle rows pending k = rw by_long (rw again (rw k refl))
+      hyphen_passes (option id) rows pending k = rw by_long (rw again (rw k refl))
+      hyphen_passes positional rows pending k = rw by_long (rw again (rw k refl))
+
+      passes : (x : Text) → IsValue x → (waiting : Waiting) (rows : List Row) (pending : Pending) → settles s rows pending ≡ true → walk_passes s [] (state waiting rows pending) (codes "--read" ∷ x ∷ []) ≡ true
+      passes x (inl e) waiting rows pending k = plain_passes x e waiting rows pending k
+      passes x (inr e) waiting rows pending k = subst (λ (y : Text). walk_passes s [] (state waiting rows pending) (codes "--read" ∷ y ∷ []) ≡ true) (sym e) (hyphen_passes waiting rows pending k)
+
+  equals_joins : (t : Text) → Joins s read_flag t (codes "-r" ++ (61 ∷ t))
+  unfolding walked bundle_met chars encode_utf8 flags_pass
+  equals_joins t = record { walks = walks; passes = passes }
+    where
+      walks : (waiting : Waiting) (rows : List Row) (pending : Pending) → walked s.rules [] (state waiting rows pending) (codes "-r" ++ (61 ∷ t)) ≡ between (used read_flag (t ∷ []) (settled_to s rows pending)) None
+      walks idle rows pending = rw by_short refl
+      walks (option id) rows pending = rw by_short refl
+      walks positional rows pending = rw by_short refl
+
+      passes : (waiting : Waiting) (rows : List Row) (pending : Pending) → settles s rows pending ≡ true → use_passes false read_flag (t ∷ []) (settled_to s rows pending) ≡ true
+          → turn_passes s [] (state waiting rows pending) (codes "-r" ++ (61 ∷ t)) ≡ true
+      passes idle rows pending k u = rw by_short (rw again (rw (k, u) refl))
+      passes (option id) rows pending k u = rw by_short (rw again (rw (k, u) refl))
+      passes positional rows pending k u = rw by_short (rw again (rw (k, u) refl))
+
+  behind_letter : (c : ℕ) (cs : Text) → (c == 61) ≡ false → Joins s read_flag (c ∷ cs) (codes "-r" ++ (c ∷ cs))
+  unfolding walked bundle_met chars encode_utf8 flags_pass
+  behind_letter c cs e = record { walks = walks; passes = passes }
+    where
+      walks : (waiting : Waiting) (rows : List Row) (pending : Pending) → walked s.rules [] (state waiting rows pending) (codes "-r" ++ (c ∷ cs)) ≡ between (used read_flag ((c ∷ cs) ∷ []) (settled_to s rows pending)) None
+      walks idle rows pending = rw by_short (rw e refl)
+      walks (option id) rows pending = rw by_short (rw e refl)
+      walks positional rows pending = rw by_short (rw e refl)
+
+      passes : (waiting : Waiting) (rows : List Row) (pending : Pending) → settles s rows pending ≡ true → use_passes false read_flag ((c ∷ cs) ∷ []) (settled_to s rows pending) ≡ true
+          → turn_passes s [] (state waiting rows pending) (codes "-r" ++ (c ∷ cs)) ≡ true
+      passes idle rows pending k u = rw by_short (rw e (rw again (rw (k, u) refl)))
+      passes (option id) rows pending k u = rw by_short (rw e (rw again (rw (k, u) refl)))
+      passes positional rows pending k u = rw by_short (rw e (rw again (rw (k, u) refl)))
+
+  letter_joins : (t : Text) → is_attached t ≡ true → Joins s read_flag t (codes "-r" ++ t)
+  letter_joins [] e = absurd (true≢false (sym e))
+  letter_joins (c ∷ cs) e = behind_letter c cs (apart (c == 61) e)
+    where
+      apart : (b : Bool) → not b ≡ true → b ≡ false
+      apart false f = refl
+      apart true f = absurd (true≢false (sym f))
+
+  letter_announces : (t : Text) → IsValue t → Announces s read_flag t (codes "-r")
+  unfolding walked walk_passes bundle_met chars encode_utf8 flags_pass
+  letter_announces t v = record { walks = walks t v; passes = passes t v; settled = λ rows. rw by_id refl; settling = λ rows u. rw by_id u }
+    where
+      plain : (x : Text) → is_flag x ≡ false → (waiting : Waiting) (rows : List Row) (pending : Pending)
+          → walked s.rules [] (walked s.rules [] (state waiting rows pending) (codes "-r")) x ≡ between (settled_to s rows pending) (Some (codes "read", x ∷ []))
+      plain [] e idle rows pending = rw by_short (rw by_id refl)
+      plain (c ∷ cs) e idle rows pending = rw by_short (rw e (rw e (rw by_id refl)))
+      plain [] e (option id) rows pending = rw by_short (rw by_id refl)
+      plain (c ∷ cs) e (option id) rows pending = rw by_short (rw e (rw e (rw by_id refl)))
+      plain [] e positional rows pending = rw by_short (rw by_id refl)
+      plain (c ∷ cs) e positional rows pending = rw by_short (rw e (rw e (rw by_id refl)))
+
+      hyphen : (waiting : Waiting) (rows : List Row) (pending : Pending)
+          → walked s.rules [] (walked s.rules [] (state waiting rows pending) (codes "-r")) (45 ∷ []) ≡ between (settled_to s rows pending) (Some (codes "read", (45 ∷ []) ∷ []))
+      hyphen idle rows pending = rw by_short (rw by_id refl)
+      hyphen (option id) rows pending = rw by_short (rw by_id refl)
+      hyphen positional rows pending = rw by_short (rw by_id refl)
+
+      walks : (x : Text) → IsValue x → (waiting : Waiting) (rows : List Row) (pending : Pending)
+          → walked s.rules [] (walked s.rules [] (state waiting rows pending) (codes "-r")) x ≡ between (settled_to s rows pending) (Some (codes "read", x ∷ []))
+      walks x (inl e) waiting rows pending = plain x e waiting rows pending
+      walks x (inr e) waiting rows pending =
+          subst (λ (y : Text). walked s.rules [] (walked s.rules [] (state waiting rows pending) (codes "-r")) y ≡ between (settled_to s rows pending) (Some (codes "read", y ∷ []))) (sym e) (hyphen waiting rows pending)
+
+      plain_passes : (x : Text) → is_flag x ≡ false → (waiting : Waiting) (rows : List Row) (pending : Pending) → settles s rows pending ≡ true → walk_passes s [] (state waiting rows pending) (codes "-r" ∷ x ∷ []) ≡ true
+      plain_passes [] e idle rows pending k = rw by_short (rw again (rw k refl))
+      plain_passes (c ∷ cs) e idle rows pending k = rw by_short (rw again (rw (k, e) (rw e refl)))
+      plain_passes [] e (option id) rows pending k = rw by_short (rw again (rw k refl))
+      plain_passes (c ∷ cs) e (option id) rows pending k = rw by_short (rw again (rw (k, e) (rw e refl)))
+      plain_passes [] e positional rows pending k = rw by_short (rw again (rw k refl))
+      plain_passes (c ∷ cs) e positional rows pending k = rw by_short (rw again (rw (k, e) (rw e refl)))
+
+      hyphen_passes : (waiting : Waiting) (rows : List Row) (pending : Pending) → settles s rows pending ≡ true → walk_passes s [] (state waiting rows pending) (codes "-r" ∷ (45 ∷ []) ∷ []) ≡ true
+      hyphen_passes idle rows pending k = rw by_short (rw again (rw k refl))
+      hyphen_passes (option id) rows pending k = rw by_short (rw again (rw k refl))
+      hyphen_passes positional rows pending k = rw by_short (rw again (rw k refl))
+
+      passes : (x : Text) → IsValue x → (waiting : Waiting) (rows : List Row) (pending : Pending) → settles s rows pending ≡ true → walk_passes s [] (state waiting rows pending) (codes "-r" ∷ x ∷ []) ≡ true
+      passes x (inl e) waiting rows pending k = plain_passes x e waiting rows pending k
+      passes x (inr e) waiting rows pending k = subst (λ (y : Text). walk_passes s [] (state waiting rows pending) (codes "-r" ∷ y ∷ []) ≡ true) (sym e) (hyphen_passes waiting rows pending k)
+
+  by_letter : (t : Text) (words : List Text) → SaysByLetter t words → Spelled s read_flag t words
+  by_letter t [] says = absurd says
+  by_letter t (word ∷ []) (inl e) = inl (codes "-r" ++ (61 ∷ t), ap (λ (x : Text). x ∷ []) e, equals_joins t)
+  by_letter t (word ∷ []) (inr e) = inl (codes "-r" ++ t, ap (λ (x : Text). x ∷ []) e.0, letter_joins t e.1)
+  by_letter t (word ∷ next ∷ []) says =
+      inr (codes "-r", ap (λ (x : Text). x ∷ next ∷ []) says.0 ∙ ap (λ (x : Text). codes "-r" ∷ x ∷ []) says.1, letter_announces t says.2)
+  by_letter t (word ∷ next ∷ x ∷ more) says = absurd says
+
+  -- each spelling of the name of a file
+  pub file_spelled : (t : Text) (words : List Text) → Says (file t) words → Spelled s read_flag t words
+  file_spelled t words (inl says) = says_option s read_flag (codes "--read") t (long_joins t) (long_announces t) words says
+  file_spelled t words (inr says) = by_letter t words says
+
+-- ---- arguments one behind the other
+
+-- an argument of a command: its texts go behind those of its name, or there is one at most of all; its words lead from rows to rows with its
+-- text; and where it has the name of an option, it gives that
+pub record Handled (s : Shape) (all : List Argument) (a : Argument) : Type 0 where
+  pub appends : Bool
+  pub once : (appends ≡ true) ⊎ (length (given_as (argument_name a) all) ≤ 1)
+  pub goes : (words : List Text) → Says a words → (w : Walk) (rows_so : List Row) (n : ℕ) → Stands s w rows_so n → n + length words ≤ usize_max
+      → (appends ≡ true) ⊎ (has_row (argument_name a) rows_so ≡ false)
+      → Went s w words (puts appends (argument_name a) (how_read s (argument_name a)) (argument_text a) rows_so) (n + length words)
+  pub gives : (o : Switch) → bytes_eq (argument_name a) (switch_name o) ≡ true → (argument_text a ≡ codes "true") × (how_read s (switch_name o) ≡ reading_by (switch_flag o))
+
+abbrev pub Each : Shape → List Argument → List Argument → Type 0
+Each s all [] = Unit {0}
+Each s all (a ∷ rest) = Handled s all a × Each s all rest
+
+pub record Gone (s : Shape) (all : List Argument) (w : Walk) (line : List Text) : Type 0 where
+  pub rows_so : List Row
+  pub n : ℕ
+  pub stands : Stands s (fold (walked s.rules []) w line) rows_so n
+  pub passes : walk_passes s [] w line ≡ true
+  pub hold : Hold s rows_so all
+
+pub arguments_go : (s : Shape) (all done rest : List Argument) → all ≡ done ++ rest → Each s all rest → (line : List Text) → SayAll rest line → (w : Walk) (rows_so : List Row) (n : ℕ) → Stands s w rows_so n → Hold s rows_so done
+    → n + length line ≤ usize_max → Gone s all w line
+unfolding walk_passes
+arguments_go s all done [] e each line say w rows_so n st hold fits =
+    subst (λ (l : List Text). Gone s all w l) (sym say) (record { rows_so = rows_so; n = n; stands = st; passes = refl; hold = subst (Hold s rows_so) (sym (e ∙ append-nil done)) hold })
+arguments_go s all done (a ∷ rest) e each line (first, more, is, says, later) w rows_so n st hold fits =
+    let size = ap length is ∙ length-append first more in
+    let fresh : (each.0.appends ≡ true) ⊎ (given_as (argument_name a) done ≡ []) = elim each.0.once [
+      | inl t ↦ inl t
+      | inr once ↦ inr (none_before done rest a (subst (λ (l : List Argument). length (given_as (argument_name a) l) ≤ 1) e once))
+    ] in
+    let unused : (each.0.appends ≡ true) ⊎ (has_row (argument_name a) rows_so ≡ false) = elim fresh [
+      | inl t ↦ inl t
+      | inr none ↦ inr (no_row s rows_so done (argument_name a) hold none)
+    ] in
+    let went = each.0.goes first says w rows_so n st (omega (arith, fits, size)) unused in
+    let behind = arguments_go s all (done ++ a ∷ []) rest (e ∙ sym (append_assoc done (a ∷ []) rest)) each.1 more later (fold (walked s.rules []) w first)
+    (puts each.0.appends (argument_name a) (how_read s (argument_name a)) (argument_text a) rows_so) (n + length first) went.stands
+    (hold_more s rows_so done a each.0.appends fresh hold) (omega (arith, fits, size)) in
+    subst (λ (l : List Text). Gone s all w l) (sym is) (record {
+      rows_so = behind.rows_so;
+      n = behind.n;
+      stands = subst (λ (x : Walk). Stands s x behind.rows_so behind.n) (sym (fold-append (walked s.rules []) w first more)) behind.stands;
+      passes = passes_behind s w first more went.passes behind.passes;
+      hold = behind.hold;
+    })
+
+-- ---- the end of the words
+
+-- words of these arguments pass, and lead to rows that hold them, and defaults
+pub record Ended (s : Shape) (all : List Argument) (words : List Text) : Type 0 where
+  pub rows_so : List Row
+  pub hold : Hold s rows_so all
+  pub rows_are : rows_after s.rules [] words ≡ fold with_default rows_so s.rules
+  pub passes : walk_passes s [] (walk_from nothing_held) words ≡ true
+  pub settling : settle_passes s.rules false (walk s.rules [] nothing_held words).held ≡ true
+
+marked_held : (s : Shape) (waiting : Waiting) (rows : List Row) (pending : Pending) → (walked s.rules [] (state waiting rows pending) dashes).held ≡ held rows pending
+unfolding walked
+marked_held s idle rows pending = refl
+marked_held s (option id) rows pending = refl
+marked_held s positional rows pending = refl
+
+marked_passes : (s : Shape) (waiting : Waiting) (rows : List Row) (pending : Pending) → turn_passes s [] (state waiting rows pending) dashes ≡ true
+marked_passes s idle rows pending = refl
+marked_passes s (option id) rows pending = refl
+marked_passes s positional rows pending = refl
+
+pub arguments_end : (s : Shape) (all : List Argument) → Each s all all → (line mark : List Text) → SayAll all line → IsEnd mark → length line ≤ usize_max → Ended s all (line ++ mark)
+unfolding walk_passes
+arguments_end s all each line mark say end fits = elim end [
+  | inl e ↦ subst (λ (m : List Text). Ended s all (line ++ m)) (sym e) (subst (λ (l : List Text). Ended s all l) (sym (append-nil line)) plainly)
+  | inr e ↦ subst (λ (m : List Text). Ended s all (line ++ m)) (sym e) by_mark
+]
+  where
+    gone : Gone s all (walk_from nothing_held) line
+    gone = arguments_go s all [] all refl each line say (walk_from nothing_held) [] 0
+        (record { waiting = idle; rows = []; pending = None; is = refl; free = refl; settled = refl; settling = refl; few = omega arith }) (λ id. refl) (omega (arith, fits))
+
+    rows_so : List Row
+    rows_so = gone.rows_so
+
+    at_end : (h : Held) → h ≡ held gone.stands.rows gone.stands.pending → (finished s.rules h ≡ fold with_default gone.rows_so s.rules) × (settle_passes s.rules false h ≡ true)
+    at_end h e = (
+      ap (λ (x : Held). finished s.rules x) e ∙ ap (λ (r : List Row). fold with_default r s.rules) gone.stands.settled,
+      subst (λ (x : Held). settle_passes s.rules false x ≡ true) (sym e) gone.stands.settling,
+    )
+
+    plainly : Ended s all line
+    plainly =
+        let last = at_end (walk s.rules [] nothing_held line).held (ap (λ (x : Walk). x.held) gone.stands.is) in
+        record { rows_so = gone.rows_so; hold = gone.hold; rows_are = last.0; passes = gone.passes; settling = last.1 }
+
+    by_mark : Ended s all (line ++ dashes ∷ [])
+    by_mark =
+        let there : fold (walked s.rules []) (walk_from nothing_held) (line ++ dashes ∷ []) ≡ walked s.rules [] (state gone.stands.waiting gone.stands.rows gone.stands.pending) dashes =
+        fold-append (walked s.rules []) (walk_from nothing_held) line (dashes ∷ []) ∙ ap (λ (x : Walk). walked s.rules [] x dashes) gone.stands.is in
+        let last = at_end (walk s.rules [] nothing_held (line ++ dashes ∷ [])).held (ap (λ (x : Walk). x.held) there ∙ marked_held s gone.stands.waiting gone.stands.rows gone.stands.pending) in
+        record {
+          rows_so = gone.rows_so;
+          hold = gone.hold;
+          rows_are = last.0;
+          passes = passes_behind s (walk_from nothing_held) line (dashes ∷ []) gone.passes
+              (both_true _ _ (subst (λ (x : Walk). turn_passes s [] x dashes ≡ true) (sym gone.stands.is) (marked_passes s gone.stands.waiting gone.stands.rows gone.stands.pending)) refl);
+          settling = last.1;
+        }
+
+pub level_ended : (s : Shape) (all : List Argument) (words : List Text) → Ended s all words → s.args_override_self ≡ false → list_all default_passes s.rules ≡ true
+    → is_valid s (rows_after s.rules [] words) false ≡ true → level_passes s [] nothing_held words false ≡ true
+level_ended s all words e again defaults valid =
+    both_true _ _ e.passes (both_true _ _ (rw again e.settling) (both_true _ _ defaults valid))
+
+-- options under their names give that they are on
+pub given_true : (s : Shape) (all args : List Argument) (o : Switch) → Each s all args
+    → (are_true (given_as (switch_name o) args) ≡ true) × ((given_as (switch_name o) args ≡ []) ⊎ (how_read s (switch_name o) ≡ reading_by (switch_flag o)))
+given_true s all [] o each = (refl, inl refl)
+given_true s all (a ∷ args) o each = go (bytes_eq (argument_name a) (switch_name o)) refl (given_true s all args o each.1)
+  where
+    go : (b : Bool) → bytes_eq (argument_name a) (switch_name o) ≡ b
+        → (are_true (given_as (switch_name o) args) ≡ true) × ((given_as (switch_name o) args ≡ []) ⊎ (how_read s (switch_name o) ≡ reading_by (switch_flag o)))
+        → (are_true (given_as (switch_name o) (a ∷ args)) ≡ true) × ((given_as (switch_name o) (a ∷ args) ≡ []) ⊎ (how_read s (switch_name o) ≡ reading_by (switch_flag o)))
+    go true t rest = let own = each.0.gives o t in rw t (rw own.0 rest.0, inr own.1)
+    go false t rest = rw t rest
+
+-- ---- rows that hold arguments of a command
+
+-- an option is set where it is given
+module _ (o : Switch) (how : Reading) where
+  set_true : (t : Text) → how ≡ reading_by (switch_flag o) → t ≡ codes "true" → set_by (row_for (switch_name o) how (t ∷ [])) ≡ true
+  set_true t e f = rw (e, f) refl
+
+  set_for : (b : Bool) (ts : List Text) → are_true ts ≡ true → (ts ≡ []) ⊎ (how ≡ reading_by (switch_flag o)) → length ts ≡ (if b then 1 else 0) → set_by (row_for (switch_name o) how ts) ≡ b
+  set_for true [] all read count = absurd (omega (arith, count))
+  set_for false [] all read count = refl
+  set_for true (t ∷ []) all (inl e) count = let size = ap length e in absurd (omega (arith, size))
+  set_for true (t ∷ []) all (inr e) count = set_true t e (sym ((bytes_eq-Decides (codes "true") t).0 (both (bytes_eq (codes "true") t) true all).0))
+  set_for false (t ∷ []) all read count = absurd (omega (arith, count))
+  set_for true (t ∷ u ∷ ts) all read count = absurd (omega (arith, count))
+  set_for false (t ∷ u ∷ ts) all read count = absurd (omega (arith, count))
+
+pub set_held : (s : Shape) (rows : List Row) (all : List Argument) (o : Switch) (b : Bool) → Hold s rows all → Each s all all → length (given_as (switch_name o) all) ≡ (if b then 1 else 0) → is_set (switch_name o) rows ≡ b
+set_held s rows all o b hold each count =
+    let told = given_true s all all o each in
+    ap set_by (hold (switch_name o)) ∙ set_for o (how_read s (switch_name o)) b (given_as (switch_name o) all) told.0 told.1 count
+
+-- and so it is counted
+pub count_set : (s : Shape) (rows : List Row) (all : List Argument) (o : Switch) → Hold s rows all → Each s all all → length (given_as (switch_name o) all) ≤ 1
+    → length (given_as (switch_name o) all) ≡ (if is_set (switch_name o) rows then 1 else 0)
+count_set s rows all o hold each few = go (length (given_as (switch_name o) all)) refl few
+  where
+    go : (k : ℕ) → length (given_as (switch_name o) all) ≡ k → k ≤ 1 → k ≡ (if is_set (switch_name o) rows then 1 else 0)
+    go zero e m = sym (ap (λ (b : Bool). if b then 1 else 0) (set_held s rows all o false hold each e))
+    go (suc zero) e m = sym (ap (λ (b : Bool). if b then 1 else 0) (set_held s rows all o true hold each e))
+    go (suc (suc k)) e m = absurd (omega (arith, m))
+
+-- each of arguments of which a test holds
+pub each_of : (s : Shape) (all : List Argument) (has : Argument → Bool) → ((a : Argument) → has a ≡ true → Handled s all a) → (args : List Argument) → list_all has args ≡ true → Each s all args
+each_of s all has handled [] e = tt
+each_of s all has handled (a ∷ args) e = let parts = both (has a) (list_all has args) e in (handled a parts.0, each_of s all has handled args parts.1)
