@@ -5,12 +5,12 @@ first ASDU with this svID. Of several with one key those that are nearest in tim
 """
 import array
 import bisect
+import functools
 import heapq
 import itertools
-import json
-import re
+import operator
 
-from reporting.places import HEAD
+from tapped import Frames
 
 SECOND = 10**6
 # How far apart the times of one frame can be, after the clocks' difference: a count of samples comes round each second, and a control
@@ -18,133 +18,11 @@ SECOND = 10**6
 REACH = {"goose": 10 * SECOND, "sv": SECOND // 2 - 1}
 # Over how many frames the clocks' difference is taken, so that single ones count for nothing.
 WINDOW = 9
-# How many senders are compared, how many of their envelopes are known again, and how many packets are named.
-MOST_SENDERS, MOST_KNOWN, MOST_NAMED = 20_000, 100_000, 10
-# The greatest time that is told apart, in microseconds.
-LATEST = 1 << 62
+# How many packets are named, and of how many frames the same ones are looked for at once.
+MOST_NAMED, TOGETHER = 10, 4096
 # Over how much of a comparison at its beginning and end the least delay tells whether clocks drift: a part in so many, with so many frames; and
 # from how many microseconds on it is told.
 PART, FEWEST, DRIFT = 10, 5, 100
-# The bit of Reserved 1 that says that a frame is simulated.
-SIMULATED = 0x8000
-STATE = re.compile(rb',"stNum":(\d+),"sqNum":(\d+),"simulation":(true|false)')
-ASDU = re.compile(rb',"asdus":\[\{("svID":"(?:[^"\\]|\\.)*"),"datSet":(?:null|"(?:[^"\\]|\\.)*"),"smpCnt":(\d+)')
-EACH = re.compile(rb'\{("svID":"(?:[^"\\]|\\.)*"),"datSet":(?:null|"(?:[^"\\]|\\.)*"),"smpCnt":(\d+)')
-
-
-class Frames:
-    """The frames of one sender on one side: their keys, times and packets, in the order of packets."""
-
-    def __init__(self):
-        self.keys, self.times, self.packets, self.ordered = array.array("Q"), array.array("q"), array.array("Q"), None
-
-    def add(self, key, now, packet):
-        self.keys.append(key)
-        self.times.append(now)
-        self.packets.append(packet)
-
-    @property
-    def number(self):
-        return len(self.keys)
-
-    @property
-    def order(self):
-        """The frames ordered by key, those of one key by time."""
-        if self.ordered is None:
-            keys, times = self.keys, self.times
-            self.ordered = array.array("I", sorted(range(len(keys)), key=keys.__getitem__))
-            for first, last in groups(keys, self.ordered):
-                if last - first > 1:
-                    self.ordered[first:last] = array.array("I", sorted(self.ordered[first:last], key=times.__getitem__))
-        return self.ordered
-
-
-def groups(keys, order):
-    """Where in an order of frames each key begins and ends."""
-    first = 0
-    for at in range(1, len(order) + 1):
-        if at == len(order) or keys[order[at]] != keys[order[first]]:
-            yield first, at
-            first = at
-
-
-class Side:
-    """What one tap has: its packets and times, and the frames of each sender."""
-
-    def __init__(self, name):
-        self.name, self.packets, self.first, self.last = name, 0, None, None
-        self.senders, self.known, self.errors, self.left_out = {}, {}, Count(), Count()
-
-    def see(self, found):
-        """A line of goose show, by its head."""
-        packet, now, kind = int(found[1]), min(int(found[2]), LATEST), found[4]
-        self.packets += 1
-        if self.first is None:
-            self.first = self.last = now
-        elif now > self.last:
-            self.last = now
-        elif now < self.first:
-            self.first = now
-        if kind == b"sv":
-            self.sampled(found, found.string, now, packet)
-        elif kind == b"goose":
-            self.goose(found, found.string, now, packet)
-        elif kind == b"fault":
-            self.errors.add(packet)
-
-    def goose(self, found, line, now, packet):
-        at = line.find(b',"timeAllowedtoLive":', found.end())
-        state = STATE.match(line, line.find(b',"stNum":', at))
-        key = line[found.end():at], state[3]
-        held = self.known.get(key) or self.sender(key, packet, "gocbRef", state[3] == b"true")
-        if held:
-            held.add(int(state[1]) << 32 | int(state[2]), now, packet)
-
-    def sampled(self, found, line, now, packet):
-        """A frame of each of its streams."""
-        first = ASDU.search(line, found.end())
-        number, svid = line.count(b',"smpCnt":', first.start()), first[1]
-        key = line[found.end():first.start()], svid
-        held = self.known.get(key) or self.sender(key, packet, "svID")
-        if held:
-            held.add(int(first[2]), now, packet)
-        if number > 1 and line.count(svid + b",", first.start()) < number:
-            for svid, count in {svid: count for svid, count in reversed(EACH.findall(line, first.start())) if svid != first[1]}.items():
-                key = key[0], svid
-                held = self.known.get(key) or self.sender(key, packet, "svID")
-                if held:
-                    held.add(int(count), now, packet)
-
-    def sender(self, key, packet, name, is_simulated=None):
-        """The frames of a sender that is seen first, or in a new envelope. None where there are too many."""
-        if len(self.known) >= MOST_KNOWN:
-            self.known.clear()
-        envelope = json.loads(b"{%s}" % (key[0][1:] + (b"," + key[1] if name == "svID" else b"")))
-        simulated = int(envelope["reserved1"], 16) >= SIMULATED if is_simulated is None else is_simulated
-        own = "sv" if name == "svID" else "goose", envelope["appid"], envelope["source"], envelope[name], simulated
-        held = self.senders.get(own)
-        if held is None:
-            if len(self.senders) >= MOST_SENDERS:
-                self.left_out.add(packet)
-                return None
-            held = self.senders[own] = Frames()
-        self.known[key] = held
-        return held
-
-
-class Count:
-    """How often something is, and the first packet that has it."""
-
-    def __init__(self):
-        self.number, self.first = 0, None
-
-    def add(self, packet):
-        self.number, self.first = self.number + 1, self.first or packet
-
-
-def heads(lines):
-    """The heads of lines of goose show that are of packets."""
-    return (it for it in map(HEAD.match, lines) if it and it[4] != b"capture")
 
 
 # ---- The clocks --------------------------------------------------------------
@@ -155,79 +33,123 @@ class Difference:
 
     def __init__(self, times, offsets):
         order = sorted(range(len(times)), key=times.__getitem__)
-        self.times, told = array.array("q", map(times.__getitem__, order)), array.array("q", map(offsets.__getitem__, order))
-        half = WINDOW // 2
-        windows = (sorted(told[max(0, at - half):at + half + 1]) for at in range(len(told)))
-        self.offsets = array.array("q", (it[len(it) // 2] for it in windows))
+        self.times, self.told = (array.array("q", map(held.__getitem__, order)) for held in (times, offsets))
+        # Between these is each difference.
+        self.least, self.greatest = min(offsets, default=0), max(offsets, default=0)
 
     def __bool__(self):
         return bool(self.times)
 
+    @functools.cached_property
+    def ends(self):
+        """Up to where each frame is the nearest one: up to the half of the way to the next, that included."""
+        return array.array("q", (it // 2 for it in map(operator.add, self.times, itertools.islice(self.times, 1, None))))
+
+    @functools.cached_property
+    def offsets(self):
+        """The difference by each frame."""
+        return array.array("q", medians(self.told))
+
     def at(self, moment):
         """The difference by the frame nearest to a time."""
-        times = self.times
-        if not times:
+        if not self.times:
             return 0
-        at = bisect.bisect_left(times, moment)
-        if at == len(times) or (at and moment - times[at - 1] <= times[at] - moment):
-            at -= 1
-        return self.offsets[at]
+        at = bisect.bisect_left(self.ends, moment)
+        around = sorted(self.told[max(0, at - WINDOW // 2):at + WINDOW // 2 + 1])
+        return around[len(around) // 2]
 
     def moved(self, times):
         """Times by the other clock."""
         if not self.times:
             return times
-        at = self.at
-        return array.array("q", [it + at(it) for it in times])
+        nearest = map(bisect.bisect_left, itertools.repeat(self.ends), times)
+        return array.array("q", map(operator.add, times, map(self.offsets.__getitem__, nearest)))
 
+    @functools.cached_property
     def turned(self):
         """How much later the one clock is than the other."""
-        return Difference(self.moved(self.times), [-it for it in self.offsets])
+        return Difference(self.moved(self.times), array.array("q", map(operator.neg, self.offsets)))
+
+
+def medians(values):
+    """The median of each value and the nearest ones around it, of two the greater."""
+    half, held = WINDOW // 2, sorted(values[:WINDOW // 2])
+    for at in range(len(values)):
+        if at + half < len(values):
+            bisect.insort(held, values[at + half])
+        if at > half:
+            del held[bisect.bisect_left(held, values[at - half - 1])]
+        yield held[len(held) // 2]
 
 
 SAME = Difference((), ())
 
 
-def difference(a, b):
-    """How much later the clock of a side is than that of another, as control blocks tell."""
+def difference(senders):
+    """How much later the clock of one side is than that of the other, as control blocks tell."""
     times, offsets = array.array("q"), array.array("q")
-    for own, ours in a.senders.items():
-        theirs = b.senders.get(own)
-        if own[0] == "goose" and theirs:
-            for one, other in common(ours, theirs):
-                if len(one) == len(other) == 1:
-                    times.append(ours.times[one[0]])
-                    offsets.append(theirs.times[other[0]] - ours.times[one[0]])
+    for it in senders:
+        if it.kind == "goose":
+            sent = array.array("q", map(it.a.times.__getitem__, it.single[0]))
+            times += sent
+            offsets.extend(map(operator.sub, map(it.b.times.__getitem__, it.single[1]), sent))
     return Difference(times, offsets)
 
 
 # ---- The same frames ---------------------------------------------------------
 
 
-def common(a, b):
-    """The frames of each key that both sides have, ordered by time."""
-    others = groups(b.keys, b.order)
-    other = next(others, None)
-    for first, last in groups(a.keys, a.order):
-        key = a.keys[a.order[first]]
-        while other and b.keys[b.order[other[0]]] < key:
-            other = next(others, None)
-        if other and b.keys[b.order[other[0]]] == key:
-            yield a.order[first:last], b.order[other[0]:other[1]]
+def is_ascending(values):
+    """Whether no value is less than the one before."""
+    return all(map(operator.le, values, itertools.islice(values, 1, None)))
 
 
-def matched(a, b, clocks, reach):
-    """For each frame of a sender on one side the number of the same one on the other side, or -1."""
-    partners, moved = array.array("i", [-1]) * a.number, clocks.moved(a.times)
-    for one, other in common(a, b):
-        if len(one) == len(other) == 1:
-            if abs(b.times[other[0]] - moved[one[0]]) <= reach:
-                partners[one[0]] = other[0]
-            continue
-        one = sorted(one, key=moved.__getitem__)
-        for at, its in nearest([moved[it] for it in one], [b.times[it] for it in other], reach):
-            partners[one[at]] = other[its]
-    return partners
+class ByKey:
+    """The frames of a sender ordered by key: their numbers, and their keys; those alone whose key no other one has; and the other keys."""
+
+    def __init__(self, frames):
+        keys, self.times = frames.keys, frames.times
+        self.numbers, self.keys = range(len(keys)), keys
+        if not is_ascending(keys):
+            self.numbers = array.array("I", sorted(self.numbers, key=keys.__getitem__))
+            self.keys = array.array("Q", map(keys.__getitem__, self.numbers))
+        begins = bytes(itertools.chain(b"\1", map(operator.ne, self.keys, itertools.islice(self.keys, 1, None))))
+        is_one = bytes(map(operator.and_, begins, itertools.chain(begins[1:], b"\1")))
+        self.single, self.single_keys, self.several = self.numbers, self.keys, ()
+        if 0 in is_one:
+            self.single, self.single_keys = (array.array(it, itertools.compress(held, is_one)) for it, held in (("I", self.numbers), ("Q", self.keys)))
+            self.several = array.array("Q", itertools.compress(self.keys, map(operator.gt, begins, is_one)))
+
+    def of(self, key):
+        """The frames of a key, ordered by time."""
+        begin = bisect.bisect_left(self.keys, key)
+        found = self.numbers[begin:bisect.bisect_right(self.keys, key, begin)]
+        return sorted(found, key=self.times.__getitem__) if len(found) > 1 else found
+
+
+def single(a, b):
+    """The frames whose key each side has once, on the one and the other side, in the order of their keys."""
+    one, other = array.array("I"), array.array("I")
+    for begin in range(0, len(a.single_keys), TOGETHER):
+        keys = a.single_keys[begin:begin + TOGETHER]
+        part = slice(bisect.bisect_left(b.single_keys, keys[0]), bisect.bisect_right(b.single_keys, keys[-1]))
+        its = dict(zip(b.single_keys[part], b.single[part]))
+        is_both = list(map(its.__contains__, keys))
+        one.extend(itertools.compress(a.single[begin:begin + TOGETHER], is_both))
+        other.extend(map(its.__getitem__, itertools.compress(keys, is_both)))
+    return one, other
+
+
+def several(a, b):
+    """The frames of each other key that both sides have, ordered by time."""
+    for key in a.several:
+        other = b.of(key)
+        if other:
+            yield a.of(key), other
+    for key in b.several:
+        one = a.of(key)
+        if len(one) == 1:
+            yield one, b.of(key)
 
 
 def nearest(ours, theirs, reach):
@@ -312,43 +234,78 @@ class Packets:
 class Sender:
     """What became of the frames of one sender."""
 
-    def __init__(self, own, a, b, partners):
+    def __init__(self, own, a, b):
         self.kind, self.appid, self.source, self.name, self.is_simulated = own
-        self.a, self.b, self.partners, self.numbers = a, b, partners, (a.number, b.number)
-        self.ours = array.array("I", (at for at, it in enumerate(partners) if it >= 0))
-        self.both, self.delays, self.delayed = len(self.ours), None, array.array("q")
+        self.a, self.b, self.numbers, self.by_key = a, b, (a.number, b.number), (ByKey(a), ByKey(b))
+        self.single, self.ours, self.theirs, self.both, self.delays, self.delayed = single(*self.by_key), (), (), 0, None, array.array("q")
         self.only, self.apart, self.turned = (Packets(), Packets()), (Packets(), Packets()), Packets()
+
+    def match(self, clocks):
+        """Finds the same frames."""
+        a, b, reach, partners = self.a, self.b, REACH[self.kind], array.array("i", [-1]) * self.a.number
+        for at, its in zip(*self.near(clocks, reach)):
+            partners[at] = its
+        moved = clocks.moved(a.times) if 2 * len(self.by_key[0].single) < a.number else None
+        for one, other in several(*self.by_key):
+            ours = {at: moved[at] if moved else a.times[at] + clocks.at(a.times[at]) for at in one}
+            one = sorted(one, key=ours.__getitem__)
+            for at, its in nearest([ours[it] for it in one], [b.times[it] for it in other], reach):
+                partners[one[at]] = other[its]
+        self.theirs = array.array("I", (it for it in partners if it >= 0))
+        self.ours = range(a.number) if len(self.theirs) == a.number else array.array("I", (at for at, it in enumerate(partners) if it >= 0))
+        self.both, self.by_key, self.single = len(self.ours), None, None
+
+    def near(self, clocks, reach):
+        """The frames whose key each side has once, and whose times are near by the other clock."""
+        one, other = self.single
+        sent = array.array("q", map(self.a.times.__getitem__, one))
+        ways = array.array("q", map(operator.sub, map(self.b.times.__getitem__, other), sent))
+        if not ways or (-reach <= min(ways) - clocks.greatest and max(ways) - clocks.least <= reach):
+            return one, other
+        is_near = [-reach <= its - now <= reach for its, now in zip(map(self.b.times.__getitem__, other), clocks.moved(sent))]
+        return itertools.compress(one, is_near), itertools.compress(other, is_near)
+
+    def since(self, times):
+        """How much later the other side has each frame that both have than these times of the first side are."""
+        return map(operator.sub, map(self.b.times.__getitem__, self.theirs), map(times.__getitem__, self.ours))
 
     def measure(self):
         """The delays, and the frames whose order is turned round: on the other side they come before one that was before them."""
-        a, b, ours = self.a, self.b, self.ours
-        theirs = array.array("I", (self.partners[at] for at in ours))
-        self.delayed = array.array("q", (b.times[its] - a.times[at] for at, its in zip(ours, theirs)))
+        a, b, ours, theirs = self.a, self.b, self.ours, self.theirs
+        self.delayed = array.array("q", self.since(a.times))
         if ours:
             self.delays = Delays(self.delayed, lambda at: (a.packets[ours[at]], b.packets[theirs[at]]))
-        greatest = itertools.accumulate(theirs, max)
-        self.turned = Packets((a.packets[at], b.packets[its]) for at, its, most in zip(ours, theirs, greatest) if its < most)
+        if not is_ascending(theirs):
+            greatest = itertools.accumulate(theirs, max)
+            self.turned = Packets((a.packets[at], b.packets[its]) for at, its, most in zip(ours, theirs, greatest) if its < most)
 
     def leave(self, is_on):
         """Parts the frames of one side alone: those for which the other one was on, and the others."""
-        used = bytearray(self.b.number)
-        for at in self.ours:
-            used[self.partners[at]] = True
-        alone = ([at for at, it in enumerate(self.partners) if it < 0], [at for at, it in enumerate(used) if not it])
         told = []
-        for side, (frames, of_side) in enumerate(zip((self.a, self.b), alone)):
-            on = [is_on(side, frames.times[at]) for at in of_side]
-            told.append([Packets(frames.packets[at] for at, it in zip(of_side, on) if it == wanted) for wanted in (True, False)])
+        for side, (frames, used) in enumerate(((self.a, self.ours), (self.b, self.theirs))):
+            alone = others(used, frames.number)
+            on = [is_on(side, frames.times[at]) for at in alone]
+            told.append([Packets(frames.packets[at] for at, it in zip(alone, on) if it == wanted) for wanted in (True, False)])
         self.only, self.apart = zip(*told)
 
     def forget(self):
         """Gives up the frames, of which all is told."""
-        self.a = self.b = self.partners = self.ours = None
+        self.a = self.b = self.ours = self.theirs = None
+
+
+def others(used, number):
+    """Which of so many numbers are not among these."""
+    if len(used) == number:
+        return ()
+    is_used = bytearray(number)
+    for at in used:
+        is_used[at] = True
+    return [at for at, it in enumerate(is_used) if not it]
 
 
 def drift(senders):
     """By how much the least delay is greater at the end than at the beginning of what both sides have, where that is told; else None."""
-    held = [(array.array("q", map(it.a.times.__getitem__, it.ours)), it.delayed) for it in senders if it.ours]
+    held = [(it.a.times if it.both == it.a.number else array.array("q", map(it.a.times.__getitem__, it.ours)), it.delayed) for it in senders if it.ours]
     if not held:
         return None
     first, last = min(min(times) for times, _ in held), max(max(times) for times, _ in held)
@@ -364,38 +321,46 @@ class Compared:
 
     def __init__(self, a, b, is_same_clock):
         self.sides, self.is_same_clock = (a, b), is_same_clock
-        self.clocks = SAME if is_same_clock else difference(a, b)
-        self.senders = [self.sender(own) for own in dict.fromkeys([*a.senders, *b.senders])]
+        self.senders = [Sender(own, *(it.senders.get(own) or Frames() for it in self.sides)) for own in dict.fromkeys([*a.senders, *b.senders])]
+        self.clocks = SAME if is_same_clock else difference(self.senders)
+        for it in self.senders:
+            it.match(self.clocks)
+            it.measure()
         self.drift = None if is_same_clock else drift(self.senders)
         self.part()
 
-    def sender(self, own):
-        a, b = (it.senders.get(own) or Frames() for it in self.sides)
-        it = Sender(own, a, b, matched(a, b, self.clocks, REACH[own[0]]))
-        it.measure()
-        return it
+    @functools.cached_property
+    def ways(self):
+        """The least way, and the one that 99 in 100 do not exceed, after the clocks' difference."""
+        ways = sorted(itertools.chain.from_iterable(it.since(self.clocks.moved(it.a.times)) for it in self.senders)) or [0]
+        return ways[0], ways[share(len(ways))]
 
     def part(self):
         """Parts frames of one side by the other's first and last packet, after the clocks' difference and the least and greatest ways."""
-        ways = array.array("q")
-        for it in self.senders:
-            moved = self.clocks.moved(it.a.times)
-            ways.extend(it.b.times[it.partners[at]] - moved[at] for at in it.ours)
-        ways = sorted(ways) or [0]
-        least, most = ways[0], ways[share(len(ways))]
-        (a, b), turned = self.sides, self.clocks.turned()
+        clocks, delays, least, most = self.clocks, [it.delays.told for it in self.senders if it.delays], 0, 0
+        if delays:
+            least = min(it["least"].microseconds for it in delays) - clocks.greatest
+            most = max(it["greatest"].microseconds for it in delays) - clocks.least
+        # Between these is how much later the other side is, with the difference of the clocks.
+        bounds = (clocks.least + least, clocks.greatest + most), (-clocks.greatest - most, -clocks.least - least)
 
         def is_on(side, time):
-            other = b if side == 0 else a
-            if not other.packets:
+            other, (early, late) = self.sides[1 - side], bounds[side]
+            if not other.packets or time + late < other.first or other.last < time + early:
                 return False
-            begin, until = (least, most) if side == 0 else (-most, -least)
-            there = time + (self.clocks if side == 0 else turned).at(time)
-            return other.first <= there + begin and there + until <= other.last
+            return other.first <= time + early and time + late <= other.last or self.is_on(side, other, time)
 
         for it in self.senders:
             it.leave(is_on)
+        for it in self.senders:
             it.forget()
+
+    def is_on(self, side, other, time):
+        """Whether the other side was on when it had a frame of this time, for the least and the greatest way."""
+        (least, most), clocks = self.ways, self.clocks if side == 0 else self.clocks.turned
+        begin, until = (least, most) if side == 0 else (-most, -least)
+        there = time + clocks.at(time)
+        return other.first <= there + begin and there + until <= other.last
 
     @property
     def unknown_clocks(self):

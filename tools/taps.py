@@ -1,13 +1,15 @@
 """The two sides that are compared: two captures, two interfaces of one, or the two networks of PRP in one."""
 import array
+import itertools
 import math
 
-from pairing import Count, Side, heads
 from reporting.asking import Asked
 from reporting.inputs import opened
 from reporting.malformed import Malformed
 from reporting.recorded import OLD_PACKET, PACKET, Recorded
+from reporting.places import HEAD
 from running import Ended
+from tapped import BEFORE, Count, Side
 
 TRAILER = b'"trailer":"'
 # The digits of a redundancy control trailer (IEC 62439-3): four of the number, A or B, three of the size, and 88FB.
@@ -21,9 +23,10 @@ class Interfaces(Recorded):
         self.of = array.array("I")
         super().__init__(path, math.inf, progress, Malformed())
 
-    def usual(self, octets, at):
-        """None is taken with others, since of each the interface is noted."""
-        return at
+    def count(self, it, before, numbers):
+        super().count(it, before, numbers)
+        if numbers > before:
+            self.of.extend(itertools.repeat(self.interfaces.index(it), numbers - before))
 
     def packet(self, kind, octets, at, size):
         before = self.numbers
@@ -43,11 +46,11 @@ class Taps:
     def __init__(self, progress):
         self.progress, self.runs, self.neither = progress, [], Count()
 
-    def heads(self, source, path):
-        """The heads of the packets of a capture."""
+    def pieces(self, source, path):
+        """The lines of a capture, some at once."""
         asked = Asked(source.path, self.progress, path)
         self.runs.append((path, asked))
-        return heads(asked.lines("reading frames", "show"))
+        return asked.pieces("reading frames", "show")
 
     @property
     def broken(self):
@@ -59,9 +62,8 @@ class Taps:
         for path in paths:
             with opened([path]) as source:
                 sides.append(Side(source.name))
-                see = sides[-1].see
-                for found in self.heads(source, path):
-                    see(found)
+                for octets in self.pieces(source, path):
+                    sides[-1].see(octets)
         return sides
 
     def interfaces(self, path, numbers):
@@ -75,11 +77,10 @@ class Taps:
                 raise Ended(f"there is no interface {max(numbers)} in {path}: it has {there}", 2)
             sides, of = [Side(name_of(it, held.interfaces[it])) for it in numbers], held.of
             chosen = dict(zip(numbers, sides))
-            for found in self.heads(source, path):
-                packet = int(found[1])
-                side = chosen.get(of[packet - 1]) if packet <= len(of) else None
-                if side:
-                    side.see(found)
+            for octets in self.pieces(source, path):
+                lines = octets.splitlines(True)
+                packets = [int(line[BEFORE:line.index(b",", BEFORE)]) for line in lines]
+                part(lines, [of[it - 1] if 0 < it <= len(of) else None for it in packets], chosen)
         return sides
 
     def lans(self, path):
@@ -87,18 +88,25 @@ class Taps:
         sides = [Side("LAN A"), Side("LAN B")]
         chosen = {b"a": sides[0], b"b": sides[1]}
         with opened([path]) as source:
-            for found in self.heads(source, path):
-                side = chosen.get(lan_of(found.string))
-                if side:
-                    side.see(found)
-                elif found[4] in (b"goose", b"sv"):
-                    self.neither.add(int(found[1]))
+            for octets in self.pieces(source, path):
+                lines = octets.splitlines(True)
+                lans = list(map(lan_of, lines))
+                part(lines, lans, chosen)
+                for found in filter(None, (HEAD.match(line) for line, lan in zip(lines, lans) if lan not in chosen)):
+                    if found[4] in (b"goose", b"sv"):
+                        self.neither.add(int(found[1]))
         return sides
+
+
+def part(lines, whose, chosen):
+    """Shows the sides that were chosen their lines."""
+    for own, side in chosen.items():
+        side.see(b"".join([line for line, it in zip(lines, whose) if it == own]), is_whole=False)
 
 
 def lan_of(line):
     """The letter of the network that a frame came by, in lower case, as its trailer ends; b"" where it has none."""
     begin = line.rfind(TRAILER)
-    if begin < 0 or not line.endswith(SUFFIX + b'"}') or len(line) - 2 - begin - len(TRAILER) < DIGITS:
+    if begin < 0 or not line.endswith(SUFFIX + b'"}\n') or len(line) - 3 - begin - len(TRAILER) < DIGITS:
         return b""
-    return line[-10:-9]
+    return line[-11:-10]

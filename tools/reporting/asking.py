@@ -42,12 +42,21 @@ class Asked:
 
     def parts(self, what, command, *words):
         """The lines of a command, as many at once as a piece of its output has."""
+        for octets in self.pieces(what, command, *words):
+            lines = octets.split(b"\n")
+            del octets
+            lines.pop()
+            yield lines
+            del lines
+
+    def pieces(self, what, command, *words):
+        """The lines of a command with their ends, as many at once as a piece of its output has."""
         asked = [command, *OPTIONS, *words]
         self.commands.append(asked)
         with open(self.path, "rb") as given, tempfile.TemporaryFile() as said:
             ran = subprocess.Popen([*self.goose, *asked], stdin=given, stdout=subprocess.PIPE, stderr=said)
             try:
-                last = yield from self.split(what, ran.stdout, given)
+                last = yield from self.whole(what, ran.stdout, given)
             except BaseException:
                 ran.kill()
                 raise
@@ -57,19 +66,24 @@ class Asked:
             said.seek(0)
             self.end(command, ran.returncode, last, said.read().decode("utf-8", "replace"))
 
-    def split(self, what, pipe, given):
-        """The lines of each piece of a pipe, and the last line."""
+    def whole(self, what, pipe, given):
+        """The whole lines of each piece of a pipe, and the last line."""
         rest, last, size = b"", b"", max(os.fstat(given.fileno()).st_size, 1)
         with contextlib.suppress(OSError):
             fcntl.fcntl(pipe, PIPE_SIZE, 16 * PIECE)
         while piece := self.piece(what, pipe, given, last, size):
-            whole = (rest + piece).split(b"\n")
-            rest = whole.pop()
-            if whole:
-                yield whole
-                last = whole[-1]
+            end = piece.rfind(b"\n") + 1
+            if end:
+                octets, rest = b"".join((rest, memoryview(piece)[:end])), piece[end:]
+                last = octets[octets.rfind(b"\n", 0, -1) + 1:-1]
+                # No piece is held while its lines are looked at, nor its lines while the next one is read.
+                del piece
+                yield octets
+                del octets
+            else:
+                rest += piece
         if rest:
-            yield [rest]
+            yield rest + b"\n"
         return rest or last
 
     def piece(self, what, pipe, given, last, size):

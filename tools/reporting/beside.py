@@ -4,11 +4,11 @@ import math
 import os
 
 import senders
-from pairing import Compared, Side, share
+from pairing import Compared, share
 from reporting import page, sections
-from reporting.places import HEAD
 from reporting.verdict import clean, found as finding, not_judged
 from running import Ended
+from tapped import Side
 from taps import Taps
 from time_axis import places_of, step_of
 
@@ -27,9 +27,7 @@ class Beside:
 
     def noting(self, parts):
         for lines in parts:
-            for found in filter(None, map(HEAD.match, lines)):
-                if found[4] != b"capture":
-                    self.here.see(found)
+            self.here.see(b"\n".join([*lines, b""]))
             yield lines
 
     def compare(self):
