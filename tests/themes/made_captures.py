@@ -64,8 +64,11 @@ class Made:
         why += [] if self.made("pcapng") == pcapng != self.made("pcapng", "8") else ["the seed does not settle the octets"]
         shown = run(program, ["show"], run(program, ["import"], classic)[0])[0].decode("ascii").splitlines()
         kinds = {line.split(" ", 1)[1] if " fault " in line else line.split(" ")[1] for line in shown}
-        wanted = {{"goose": "goose", "samples": "sv"}[self.traffic], "fault 12 EtherType"}
+        wanted = {"sv" if self.traffic == "samples" else "goose", "fault 12 EtherType"}
         why += [] if kinds == wanted and len(shown) == PACKETS else [f"{len(shown)} lines of {sorted(kinds)}"]
+        if self.traffic == "events":
+            told = [line.split(" ") for line in shown if line.split(" ")[1] == "goose"]
+            why += [] if len({(*words[4:7], words[11]) for words in told}) == len(told) else ["a frame repeats the state of another"]
         return why + why_tshark_differs(pcapng) + why_tshark_differs(classic)
 
 
@@ -84,6 +87,6 @@ class Acts(Made):
 
 def cases():
     yield TwoBays()
-    for traffic in ("goose", "samples"):
+    for traffic in ("goose", "events", "samples"):
         yield Made(traffic)
     yield Acts("goose", ", replayed")

@@ -115,6 +115,38 @@ says_option s a name t j k (word ∷ next ∷ []) says =
     inr (name, ap (λ (x : Text). x ∷ next ∷ []) says.0 ∙ ap (λ (x : Text). name ∷ x ∷ []) says.1, k says.2)
 says_option s a name t j k (word ∷ next ∷ x ∷ more) says = absurd says
 
+-- where the value of an option is waited for
+abbrev pub waits_for : Text → List Row → Walk
+waits_for id rows = state (option id) rows (Some (id, []))
+
+-- a value there
+abbrev pub Valued : Shape → Rule → Text → List Row → Type 0
+Valued s a t rows = (walked s.rules [] (waits_for a.id rows) t ≡ between rows (Some (a.id, t ∷ []))) × (turn_passes s [] (waits_for a.id rows) t ≡ true)
+
+-- the name of an option alone leads to where its value is waited for, and a value from there on
+pub record Waits (s : Shape) (a : Rule) (word : Text) : Type 0 where
+  pub named : (waiting : Waiting) (rows : List Row) (pending : Pending) → walked s.rules [] (state waiting rows pending) word ≡ waits_for a.id (settled_to s rows pending)
+  pub passes : (waiting : Waiting) (rows : List Row) (pending : Pending) → settles s rows pending ≡ true → turn_passes s [] (state waiting rows pending) word ≡ true
+  pub empty : (rows : List Row) → Valued s a [] rows
+  pub plain : (c : ℕ) (cs : Text) → is_flag (c ∷ cs) ≡ false → (rows : List Row) → Valued s a (c ∷ cs) rows
+  pub hyphen : (rows : List Row) → Valued s a (45 ∷ []) rows
+
+valued : (s : Shape) (a : Rule) (word : Text) → Waits s a word → (t : Text) → IsValue t → (rows : List Row) → Valued s a t rows
+valued s a word w [] (inl e) rows = w.empty rows
+valued s a word w (c ∷ cs) (inl e) rows = w.plain c cs e rows
+valued s a word w t (inr e) rows = subst (λ (x : Text). Valued s a x rows) (sym e) (w.hyphen rows)
+
+pub announces : (s : Shape) (a : Rule) (word : Text) → Waits s a word → (t : Text) → ((rows : List Row) → settled_to s rows (Some (a.id, t ∷ [])) ≡ used a (t ∷ []) rows)
+    → ((rows : List Row) → use_passes false a (t ∷ []) rows ≡ true → settles s rows (Some (a.id, t ∷ [])) ≡ true) → IsValue t → Announces s a t word
+unfolding walk_passes
+announces s a word w t settled settling v = record {
+  walks = λ waiting rows pending. ap (λ (x : Walk). walked s.rules [] x t) (w.named waiting rows pending) ∙ (valued s a word w t v (settled_to s rows pending)).0;
+  passes = λ waiting rows pending k. both_true _ _ (w.passes waiting rows pending k)
+      (both_true _ _ (subst (λ (x : Walk). turn_passes s [] x t ≡ true) (sym (w.named waiting rows pending)) (valued s a word w t v (settled_to s rows pending)).1) refl);
+  settled = settled;
+  settling = settling;
+}
+
 -- ---- the name of a file
 
 module _ (s : Shape) (by_long : arg_by_long s.rules (codes "read") ≡ Some read_flag) (by_short : arg_by_short s.rules 114 ≡ Some read_flag)
@@ -134,47 +166,19 @@ module _ (s : Shape) (by_long : arg_by_long s.rules (codes "read") ≡ Some read
       passes (option id) rows pending k u = rw by_long (rw again (rw (k, u) refl))
       passes positional rows pending k u = rw by_long (rw again (rw (k, u) refl))
 
-  long_announces : (t : Text) → IsValue t → Announces s read_flag t (codes "--read")
-  unfolding walked walk_passes
-  long_announces t v = record { walks = walks t v; passes = passes t v; settled = λ rows. rw by_id refl; settling = λ rows u. rw by_id u }
+  long_waits : Waits s read_flag (codes "--read")
+  unfolding walked
+  long_waits = record { named = named; passes = passes; empty = λ rows. (rw by_id refl, refl); plain = λ c cs e rows. (rw e (rw e (rw by_id refl)), rw again (rw e (rw e refl))); hyphen = λ rows. (rw by_id refl, refl) }
     where
-      plain : (x : Text) → is_flag x ≡ false → (waiting : Waiting) (rows : List Row) (pending : Pending)
-          → walked s.rules [] (walked s.rules [] (state waiting rows pending) (codes "--read")) x ≡ between (settled_to s rows pending) (Some (codes "read", x ∷ []))
-      plain [] e idle rows pending = rw by_long (rw by_id refl)
-      plain (c ∷ cs) e idle rows pending = rw by_long (rw e (rw e (rw by_id refl)))
-      plain [] e (option id) rows pending = rw by_long (rw by_id refl)
-      plain (c ∷ cs) e (option id) rows pending = rw by_long (rw e (rw e (rw by_id refl)))
-      plain [] e positional rows pending = rw by_long (rw by_id refl)
-      plain (c ∷ cs) e positional rows pending = rw by_long (rw e (rw e (rw by_id refl)))
+      named : (waiting : Waiting) (rows : List Row) (pending : Pending) → walked s.rules [] (state waiting rows pending) (codes "--read") ≡ waits_for (codes "read") (settled_to s rows pending)
+      named idle rows pending = rw by_long refl
+      named (option id) rows pending = rw by_long refl
+      named positional rows pending = rw by_long refl
 
-      hyphen : (waiting : Waiting) (rows : List Row) (pending : Pending)
-          → walked s.rules [] (walked s.rules [] (state waiting rows pending) (codes "--read")) (45 ∷ []) ≡ between (settled_to s rows pending) (Some (codes "read", (45 ∷ []) ∷ []))
-      hyphen idle rows pending = rw by_long (rw by_id refl)
-      hyphen (option id) rows pending = rw by_long (rw by_id refl)
-      hyphen positional rows pending = rw by_long (rw by_id refl)
-
-      walks : (x : Text) → IsValue x → (waiting : Waiting) (rows : List Row) (pending : Pending)
-          → walked s.rules [] (walked s.rules [] (state waiting rows pending) (codes "--read")) x ≡ between (settled_to s rows pending) (Some (codes "read", x ∷ []))
-      walks x (inl e) waiting rows pending = plain x e waiting rows pending
-      walks x (inr e) waiting rows pending =
-          subst (λ (y : Text). walked s.rules [] (walked s.rules [] (state waiting rows pending) (codes "--read")) y ≡ between (settled_to s rows pending) (Some (codes "read", y ∷ []))) (sym e) (hyphen waiting rows pending)
-
-      plain_passes : (x : Text) → is_flag x ≡ false → (waiting : Waiting) (rows : List Row) (pending : Pending) → settles s rows pending ≡ true → walk_passes s [] (state waiting rows pending) (codes "--read" ∷ x ∷ []) ≡ true
-      plain_passes [] e idle rows pending k = rw by_long (rw again (rw k refl))
-      plain_passes (c ∷ cs) e idle rows pending k = rw by_long (rw again (rw (k, e) (rw e refl)))
-      plain_passes [] e (option id) rows pending k = rw by_long (rw again (rw k refl))
-      plain_passes (c ∷ cs) e (option id) rows pending k = rw by_long (rw again (rw (k, e) (rw e refl)))
-      plain_passes [] e positional rows pending k = rw by_long (rw again (rw k refl))
-      plain_passes (c ∷ cs) e positional rows pending k = rw by_long (rw again (rw (k, e) (rw e refl)))
-
-      hyphen_passes : (waiting : Waiting) (rows : List Row) (pending : Pending) → settles s rows pending ≡ true → walk_passes s [] (state waiting rows pending) (codes "--read" ∷ (45 ∷ []) ∷ []) ≡ true
-      hyphen_passes idle rows pending k = rw by_long (rw again (rw k refl))
-      hyphen_passes (option id) rows pending k = rw by_long (rw again (rw k refl))
-      hyphen_passes positional rows pending k = rw by_long (rw again (rw k refl))
-
-      passes : (x : Text) → IsValue x → (waiting : Waiting) (rows : List Row) (pending : Pending) → settles s rows pending ≡ true → walk_passes s [] (state waiting rows pending) (codes "--read" ∷ x ∷ []) ≡ true
-      passes x (inl e) waiting rows pending k = plain_passes x e waiting rows pending k
-      passes x (inr e) waiting rows pending k = subst (λ (y : Text). walk_passes s [] (state waiting rows pending) (codes "--read" ∷ y ∷ []) ≡ true) (sym e) (hyphen_passes waiting rows pending k)
+      passes : (waiting : Waiting) (rows : List Row) (pending : Pending) → settles s rows pending ≡ true → turn_passes s [] (state waiting rows pending) (codes "--read") ≡ true
+      passes idle rows pending k = rw by_long (rw again (rw k refl))
+      passes (option id) rows pending k = rw by_long (rw again (rw k refl))
+      passes positional rows pending k = rw by_long (rw again (rw k refl))
 
   equals_joins : (t : Text) → Joins s read_flag t (codes "-r" ++ (61 ∷ t))
   unfolding walked bundle_met chars encode_utf8 flags_pass
@@ -214,59 +218,34 @@ module _ (s : Shape) (by_long : arg_by_long s.rules (codes "read") ≡ Some read
       apart false f = refl
       apart true f = absurd (true≢false (sym f))
 
-  letter_announces : (t : Text) → IsValue t → Announces s read_flag t (codes "-r")
-  unfolding walked walk_passes bundle_met chars encode_utf8 flags_pass
-  letter_announces t v = record { walks = walks t v; passes = passes t v; settled = λ rows. rw by_id refl; settling = λ rows u. rw by_id u }
+  letter_waits : Waits s read_flag (codes "-r")
+  unfolding walked bundle_met chars encode_utf8 flags_pass
+  letter_waits = record { named = named; passes = passes; empty = long_waits.empty; plain = long_waits.plain; hyphen = long_waits.hyphen }
     where
-      plain : (x : Text) → is_flag x ≡ false → (waiting : Waiting) (rows : List Row) (pending : Pending)
-          → walked s.rules [] (walked s.rules [] (state waiting rows pending) (codes "-r")) x ≡ between (settled_to s rows pending) (Some (codes "read", x ∷ []))
-      plain [] e idle rows pending = rw by_short (rw by_id refl)
-      plain (c ∷ cs) e idle rows pending = rw by_short (rw e (rw e (rw by_id refl)))
-      plain [] e (option id) rows pending = rw by_short (rw by_id refl)
-      plain (c ∷ cs) e (option id) rows pending = rw by_short (rw e (rw e (rw by_id refl)))
-      plain [] e positional rows pending = rw by_short (rw by_id refl)
-      plain (c ∷ cs) e positional rows pending = rw by_short (rw e (rw e (rw by_id refl)))
+      named : (waiting : Waiting) (rows : List Row) (pending : Pending) → walked s.rules [] (state waiting rows pending) (codes "-r") ≡ waits_for (codes "read") (settled_to s rows pending)
+      named idle rows pending = rw by_short refl
+      named (option id) rows pending = rw by_short refl
+      named positional rows pending = rw by_short refl
 
-      hyphen : (waiting : Waiting) (rows : List Row) (pending : Pending)
-          → walked s.rules [] (walked s.rules [] (state waiting rows pending) (codes "-r")) (45 ∷ []) ≡ between (settled_to s rows pending) (Some (codes "read", (45 ∷ []) ∷ []))
-      hyphen idle rows pending = rw by_short (rw by_id refl)
-      hyphen (option id) rows pending = rw by_short (rw by_id refl)
-      hyphen positional rows pending = rw by_short (rw by_id refl)
+      passes : (waiting : Waiting) (rows : List Row) (pending : Pending) → settles s rows pending ≡ true → turn_passes s [] (state waiting rows pending) (codes "-r") ≡ true
+      passes idle rows pending k = rw by_short (rw again (rw k refl))
+      passes (option id) rows pending k = rw by_short (rw again (rw k refl))
+      passes positional rows pending k = rw by_short (rw again (rw k refl))
 
-      walks : (x : Text) → IsValue x → (waiting : Waiting) (rows : List Row) (pending : Pending)
-          → walked s.rules [] (walked s.rules [] (state waiting rows pending) (codes "-r")) x ≡ between (settled_to s rows pending) (Some (codes "read", x ∷ []))
-      walks x (inl e) waiting rows pending = plain x e waiting rows pending
-      walks x (inr e) waiting rows pending =
-          subst (λ (y : Text). walked s.rules [] (walked s.rules [] (state waiting rows pending) (codes "-r")) y ≡ between (settled_to s rows pending) (Some (codes "read", y ∷ []))) (sym e) (hyphen waiting rows pending)
-
-      plain_passes : (x : Text) → is_flag x ≡ false → (waiting : Waiting) (rows : List Row) (pending : Pending) → settles s rows pending ≡ true → walk_passes s [] (state waiting rows pending) (codes "-r" ∷ x ∷ []) ≡ true
-      plain_passes [] e idle rows pending k = rw by_short (rw again (rw k refl))
-      plain_passes (c ∷ cs) e idle rows pending k = rw by_short (rw again (rw (k, e) (rw e refl)))
-      plain_passes [] e (option id) rows pending k = rw by_short (rw again (rw k refl))
-      plain_passes (c ∷ cs) e (option id) rows pending k = rw by_short (rw again (rw (k, e) (rw e refl)))
-      plain_passes [] e positional rows pending k = rw by_short (rw again (rw k refl))
-      plain_passes (c ∷ cs) e positional rows pending k = rw by_short (rw again (rw (k, e) (rw e refl)))
-
-      hyphen_passes : (waiting : Waiting) (rows : List Row) (pending : Pending) → settles s rows pending ≡ true → walk_passes s [] (state waiting rows pending) (codes "-r" ∷ (45 ∷ []) ∷ []) ≡ true
-      hyphen_passes idle rows pending k = rw by_short (rw again (rw k refl))
-      hyphen_passes (option id) rows pending k = rw by_short (rw again (rw k refl))
-      hyphen_passes positional rows pending k = rw by_short (rw again (rw k refl))
-
-      passes : (x : Text) → IsValue x → (waiting : Waiting) (rows : List Row) (pending : Pending) → settles s rows pending ≡ true → walk_passes s [] (state waiting rows pending) (codes "-r" ∷ x ∷ []) ≡ true
-      passes x (inl e) waiting rows pending k = plain_passes x e waiting rows pending k
-      passes x (inr e) waiting rows pending k = subst (λ (y : Text). walk_passes s [] (state waiting rows pending) (codes "-r" ∷ y ∷ []) ≡ true) (sym e) (hyphen_passes waiting rows pending k)
+  file_announces : (word : Text) → Waits s read_flag word → (t : Text) → IsValue t → Announces s read_flag t word
+  file_announces word w t = announces s read_flag word w t (λ rows. rw by_id refl) (λ rows u. rw by_id u)
 
   by_letter : (t : Text) (words : List Text) → SaysByLetter t words → Spelled s read_flag t words
   by_letter t [] says = absurd says
   by_letter t (word ∷ []) (inl e) = inl (codes "-r" ++ (61 ∷ t), ap (λ (x : Text). x ∷ []) e, equals_joins t)
   by_letter t (word ∷ []) (inr e) = inl (codes "-r" ++ t, ap (λ (x : Text). x ∷ []) e.0, letter_joins t e.1)
   by_letter t (word ∷ next ∷ []) says =
-      inr (codes "-r", ap (λ (x : Text). x ∷ next ∷ []) says.0 ∙ ap (λ (x : Text). codes "-r" ∷ x ∷ []) says.1, letter_announces t says.2)
+      inr (codes "-r", ap (λ (x : Text). x ∷ next ∷ []) says.0 ∙ ap (λ (x : Text). codes "-r" ∷ x ∷ []) says.1, file_announces (codes "-r") letter_waits t says.2)
   by_letter t (word ∷ next ∷ x ∷ more) says = absurd says
 
   -- each spelling of the name of a file
   pub file_spelled : (t : Text) (words : List Text) → Says (file t) words → Spelled s read_flag t words
-  file_spelled t words (inl says) = says_option s read_flag (codes "--read") t (long_joins t) (long_announces t) words says
+  file_spelled t words (inl says) = says_option s read_flag (codes "--read") t (long_joins t) (file_announces (codes "--read") long_waits t) words says
   file_spelled t words (inr says) = by_letter t words says
 
 -- ---- arguments one behind the other

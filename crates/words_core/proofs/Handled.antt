@@ -12,10 +12,10 @@ use Rattle.clap.specs.Walk.{Waiting, Walk, arg_by_id, arg_by_long, arg_by_short,
 use Rattle.clap.specs.declared.builder.value_parser.Reading.{Reading}
 use Rattle.clap.specs.declared.parser.matches.ValueSource.{ValueSource}
 use Rattle.clap.specs.declared.parser.matches.ValueSource.TheVariants.{CommandLine}
-use Rattle.words_core.specs.CommandLine.{Asked, IsValue, block_rule, is_flag, replay_shape}
+use Rattle.words_core.specs.CommandLine.{Asked, block_rule, is_flag, replay_shape}
 use Rattle.words_core.specs.RequestLine.{Argument, Says, Switch, argument_name, argument_text, capture, changes, file, given_as, offered, read_rule, simulation, switch, switch_name, switch_word, text, valued}
 use Rattle.words_core.proofs.ArgumentRows.{how_read, puts}
-use Rattle.words_core.proofs.ArgumentWalks.{Announces, Handled, Joins, Spelled, Stands, Went, file_spelled, is_free, says_option, size_of, spelled_goes}
+use Rattle.words_core.proofs.ArgumentWalks.{Handled, Joins, Spelled, Stands, Waits, Went, announces, file_spelled, is_free, says_option, size_of, spelled_goes, waits_for}
 use Rattle.words_core.proofs.KeptRows.{leaf}
 use Rattle.words_core.proofs.LossesRows.{losing, stream_period}
 use Rattle.words_core.proofs.OptionRows.{read_flag, self_eq, strongest, switch_flag, use_switch}
@@ -157,47 +157,19 @@ period_joins t = record { walks = walks; passes = passes }
     passes (option id) rows pending k u = rw (k, u) refl
     passes positional rows pending k u = rw (k, u) refl
 
-period_announces : (t : Text) → IsValue t → Announces watches period_option t (codes "--period")
-unfolding walked walk_passes
-period_announces t v = record { walks = walks t v; passes = passes t v; settled = λ rows. refl; settling = λ rows u. u }
+period_waits : Waits watches period_option (codes "--period")
+unfolding walked
+period_waits = record { named = named; passes = passes; empty = λ rows. (refl, refl); plain = λ c cs e rows. (rw e (rw e refl), rw e (rw e refl)); hyphen = λ rows. (refl, refl) }
   where
-    plain : (x : Text) → is_flag x ≡ false → (waiting : Waiting) (rows : List Row) (pending : Pending)
-        → walked watches.rules [] (walked watches.rules [] (state waiting rows pending) (codes "--period")) x ≡ between (settled_to watches rows pending) (Some (codes "period", x ∷ []))
-    plain [] e idle rows pending = refl
-    plain (c ∷ cs) e idle rows pending = rw e (rw e refl)
-    plain [] e (option id) rows pending = refl
-    plain (c ∷ cs) e (option id) rows pending = rw e (rw e refl)
-    plain [] e positional rows pending = refl
-    plain (c ∷ cs) e positional rows pending = rw e (rw e refl)
+    named : (waiting : Waiting) (rows : List Row) (pending : Pending) → walked watches.rules [] (state waiting rows pending) (codes "--period") ≡ waits_for (codes "period") (settled_to watches rows pending)
+    named idle rows pending = refl
+    named (option id) rows pending = refl
+    named positional rows pending = refl
 
-    hyphen : (waiting : Waiting) (rows : List Row) (pending : Pending)
-        → walked watches.rules [] (walked watches.rules [] (state waiting rows pending) (codes "--period")) (45 ∷ []) ≡ between (settled_to watches rows pending) (Some (codes "period", (45 ∷ []) ∷ []))
-    hyphen idle rows pending = refl
-    hyphen (option id) rows pending = refl
-    hyphen positional rows pending = refl
-
-    walks : (x : Text) → IsValue x → (waiting : Waiting) (rows : List Row) (pending : Pending)
-        → walked watches.rules [] (walked watches.rules [] (state waiting rows pending) (codes "--period")) x ≡ between (settled_to watches rows pending) (Some (codes "period", x ∷ []))
-    walks x (inl e) waiting rows pending = plain x e waiting rows pending
-    walks x (inr e) waiting rows pending =
-        subst (λ (y : Text). walked watches.rules [] (walked watches.rules [] (state waiting rows pending) (codes "--period")) y ≡ between (settled_to watches rows pending) (Some (codes "period", y ∷ []))) (sym e) (hyphen waiting rows pending)
-
-    plain_passes : (x : Text) → is_flag x ≡ false → (waiting : Waiting) (rows : List Row) (pending : Pending) → settles watches rows pending ≡ true → walk_passes watches [] (state waiting rows pending) (codes "--period" ∷ x ∷ []) ≡ true
-    plain_passes [] e idle rows pending k = rw k refl
-    plain_passes (c ∷ cs) e idle rows pending k = rw (k, e) (rw e refl)
-    plain_passes [] e (option id) rows pending k = rw k refl
-    plain_passes (c ∷ cs) e (option id) rows pending k = rw (k, e) (rw e refl)
-    plain_passes [] e positional rows pending k = rw k refl
-    plain_passes (c ∷ cs) e positional rows pending k = rw (k, e) (rw e refl)
-
-    hyphen_passes : (waiting : Waiting) (rows : List Row) (pending : Pending) → settles watches rows pending ≡ true → walk_passes watches [] (state waiting rows pending) (codes "--period" ∷ (45 ∷ []) ∷ []) ≡ true
-    hyphen_passes idle rows pending k = rw k refl
-    hyphen_passes (option id) rows pending k = rw k refl
-    hyphen_passes positional rows pending k = rw k refl
-
-    passes : (x : Text) → IsValue x → (waiting : Waiting) (rows : List Row) (pending : Pending) → settles watches rows pending ≡ true → walk_passes watches [] (state waiting rows pending) (codes "--period" ∷ x ∷ []) ≡ true
-    passes x (inl e) waiting rows pending k = plain_passes x e waiting rows pending k
-    passes x (inr e) waiting rows pending k = subst (λ (y : Text). walk_passes watches [] (state waiting rows pending) (codes "--period" ∷ y ∷ []) ≡ true) (sym e) (hyphen_passes waiting rows pending k)
+    passes : (waiting : Waiting) (rows : List Row) (pending : Pending) → settles watches rows pending ≡ true → turn_passes watches [] (state waiting rows pending) (codes "--period") ≡ true
+    passes idle rows pending k = rw k refl
+    passes (option id) rows pending k = rw k refl
+    passes positional rows pending k = rw k refl
 
 id_joins : (t : Text) → Joins watches id_option t (codes "--id" ++ (61 ∷ t))
 unfolding walked
@@ -214,47 +186,19 @@ id_joins t = record { walks = walks; passes = passes }
     passes (option id) rows pending k u = rw (k, u) refl
     passes positional rows pending k u = rw (k, u) refl
 
-id_announces : (t : Text) → IsValue t → Announces watches id_option t (codes "--id")
-unfolding walked walk_passes
-id_announces t v = record { walks = walks t v; passes = passes t v; settled = λ rows. refl; settling = λ rows u. u }
+id_waits : Waits watches id_option (codes "--id")
+unfolding walked
+id_waits = record { named = named; passes = passes; empty = λ rows. (refl, refl); plain = λ c cs e rows. (rw e (rw e refl), rw e (rw e refl)); hyphen = λ rows. (refl, refl) }
   where
-    plain : (x : Text) → is_flag x ≡ false → (waiting : Waiting) (rows : List Row) (pending : Pending)
-        → walked watches.rules [] (walked watches.rules [] (state waiting rows pending) (codes "--id")) x ≡ between (settled_to watches rows pending) (Some (codes "id", x ∷ []))
-    plain [] e idle rows pending = refl
-    plain (c ∷ cs) e idle rows pending = rw e (rw e refl)
-    plain [] e (option id) rows pending = refl
-    plain (c ∷ cs) e (option id) rows pending = rw e (rw e refl)
-    plain [] e positional rows pending = refl
-    plain (c ∷ cs) e positional rows pending = rw e (rw e refl)
+    named : (waiting : Waiting) (rows : List Row) (pending : Pending) → walked watches.rules [] (state waiting rows pending) (codes "--id") ≡ waits_for (codes "id") (settled_to watches rows pending)
+    named idle rows pending = refl
+    named (option id) rows pending = refl
+    named positional rows pending = refl
 
-    hyphen : (waiting : Waiting) (rows : List Row) (pending : Pending)
-        → walked watches.rules [] (walked watches.rules [] (state waiting rows pending) (codes "--id")) (45 ∷ []) ≡ between (settled_to watches rows pending) (Some (codes "id", (45 ∷ []) ∷ []))
-    hyphen idle rows pending = refl
-    hyphen (option id) rows pending = refl
-    hyphen positional rows pending = refl
-
-    walks : (x : Text) → IsValue x → (waiting : Waiting) (rows : List Row) (pending : Pending)
-        → walked watches.rules [] (walked watches.rules [] (state waiting rows pending) (codes "--id")) x ≡ between (settled_to watches rows pending) (Some (codes "id", x ∷ []))
-    walks x (inl e) waiting rows pending = plain x e waiting rows pending
-    walks x (inr e) waiting rows pending =
-        subst (λ (y : Text). walked watches.rules [] (walked watches.rules [] (state waiting rows pending) (codes "--id")) y ≡ between (settled_to watches rows pending) (Some (codes "id", y ∷ []))) (sym e) (hyphen waiting rows pending)
-
-    plain_passes : (x : Text) → is_flag x ≡ false → (waiting : Waiting) (rows : List Row) (pending : Pending) → settles watches rows pending ≡ true → walk_passes watches [] (state waiting rows pending) (codes "--id" ∷ x ∷ []) ≡ true
-    plain_passes [] e idle rows pending k = rw k refl
-    plain_passes (c ∷ cs) e idle rows pending k = rw (k, e) (rw e refl)
-    plain_passes [] e (option id) rows pending k = rw k refl
-    plain_passes (c ∷ cs) e (option id) rows pending k = rw (k, e) (rw e refl)
-    plain_passes [] e positional rows pending k = rw k refl
-    plain_passes (c ∷ cs) e positional rows pending k = rw (k, e) (rw e refl)
-
-    hyphen_passes : (waiting : Waiting) (rows : List Row) (pending : Pending) → settles watches rows pending ≡ true → walk_passes watches [] (state waiting rows pending) (codes "--id" ∷ (45 ∷ []) ∷ []) ≡ true
-    hyphen_passes idle rows pending k = rw k refl
-    hyphen_passes (option id) rows pending k = rw k refl
-    hyphen_passes positional rows pending k = rw k refl
-
-    passes : (x : Text) → IsValue x → (waiting : Waiting) (rows : List Row) (pending : Pending) → settles watches rows pending ≡ true → walk_passes watches [] (state waiting rows pending) (codes "--id" ∷ x ∷ []) ≡ true
-    passes x (inl e) waiting rows pending k = plain_passes x e waiting rows pending k
-    passes x (inr e) waiting rows pending k = subst (λ (y : Text). walk_passes watches [] (state waiting rows pending) (codes "--id" ∷ y ∷ []) ≡ true) (sym e) (hyphen_passes waiting rows pending k)
+    passes : (waiting : Waiting) (rows : List Row) (pending : Pending) → settles watches rows pending ≡ true → turn_passes watches [] (state waiting rows pending) (codes "--id") ≡ true
+    passes idle rows pending k = rw k refl
+    passes (option id) rows pending k = rw k refl
+    passes positional rows pending k = rw k refl
 
 stream_joins : (t : Text) → Joins losing stream_period t (codes "--period" ++ (61 ∷ t))
 unfolding walked
@@ -271,47 +215,19 @@ stream_joins t = record { walks = walks; passes = passes }
     passes (option id) rows pending k u = rw (k, u) refl
     passes positional rows pending k u = rw (k, u) refl
 
-stream_announces : (t : Text) → IsValue t → Announces losing stream_period t (codes "--period")
-unfolding walked walk_passes
-stream_announces t v = record { walks = walks t v; passes = passes t v; settled = λ rows. refl; settling = λ rows u. u }
+stream_waits : Waits losing stream_period (codes "--period")
+unfolding walked
+stream_waits = record { named = named; passes = passes; empty = λ rows. (refl, refl); plain = λ c cs e rows. (rw e (rw e refl), rw e (rw e refl)); hyphen = λ rows. (refl, refl) }
   where
-    plain : (x : Text) → is_flag x ≡ false → (waiting : Waiting) (rows : List Row) (pending : Pending)
-        → walked losing.rules [] (walked losing.rules [] (state waiting rows pending) (codes "--period")) x ≡ between (settled_to losing rows pending) (Some (codes "period", x ∷ []))
-    plain [] e idle rows pending = refl
-    plain (c ∷ cs) e idle rows pending = rw e (rw e refl)
-    plain [] e (option id) rows pending = refl
-    plain (c ∷ cs) e (option id) rows pending = rw e (rw e refl)
-    plain [] e positional rows pending = refl
-    plain (c ∷ cs) e positional rows pending = rw e (rw e refl)
+    named : (waiting : Waiting) (rows : List Row) (pending : Pending) → walked losing.rules [] (state waiting rows pending) (codes "--period") ≡ waits_for (codes "period") (settled_to losing rows pending)
+    named idle rows pending = refl
+    named (option id) rows pending = refl
+    named positional rows pending = refl
 
-    hyphen : (waiting : Waiting) (rows : List Row) (pending : Pending)
-        → walked losing.rules [] (walked losing.rules [] (state waiting rows pending) (codes "--period")) (45 ∷ []) ≡ between (settled_to losing rows pending) (Some (codes "period", (45 ∷ []) ∷ []))
-    hyphen idle rows pending = refl
-    hyphen (option id) rows pending = refl
-    hyphen positional rows pending = refl
-
-    walks : (x : Text) → IsValue x → (waiting : Waiting) (rows : List Row) (pending : Pending)
-        → walked losing.rules [] (walked losing.rules [] (state waiting rows pending) (codes "--period")) x ≡ between (settled_to losing rows pending) (Some (codes "period", x ∷ []))
-    walks x (inl e) waiting rows pending = plain x e waiting rows pending
-    walks x (inr e) waiting rows pending =
-        subst (λ (y : Text). walked losing.rules [] (walked losing.rules [] (state waiting rows pending) (codes "--period")) y ≡ between (settled_to losing rows pending) (Some (codes "period", y ∷ []))) (sym e) (hyphen waiting rows pending)
-
-    plain_passes : (x : Text) → is_flag x ≡ false → (waiting : Waiting) (rows : List Row) (pending : Pending) → settles losing rows pending ≡ true → walk_passes losing [] (state waiting rows pending) (codes "--period" ∷ x ∷ []) ≡ true
-    plain_passes [] e idle rows pending k = rw k refl
-    plain_passes (c ∷ cs) e idle rows pending k = rw (k, e) (rw e refl)
-    plain_passes [] e (option id) rows pending k = rw k refl
-    plain_passes (c ∷ cs) e (option id) rows pending k = rw (k, e) (rw e refl)
-    plain_passes [] e positional rows pending k = rw k refl
-    plain_passes (c ∷ cs) e positional rows pending k = rw (k, e) (rw e refl)
-
-    hyphen_passes : (waiting : Waiting) (rows : List Row) (pending : Pending) → settles losing rows pending ≡ true → walk_passes losing [] (state waiting rows pending) (codes "--period" ∷ (45 ∷ []) ∷ []) ≡ true
-    hyphen_passes idle rows pending k = rw k refl
-    hyphen_passes (option id) rows pending k = rw k refl
-    hyphen_passes positional rows pending k = rw k refl
-
-    passes : (x : Text) → IsValue x → (waiting : Waiting) (rows : List Row) (pending : Pending) → settles losing rows pending ≡ true → walk_passes losing [] (state waiting rows pending) (codes "--period" ∷ x ∷ []) ≡ true
-    passes x (inl e) waiting rows pending k = plain_passes x e waiting rows pending k
-    passes x (inr e) waiting rows pending k = subst (λ (y : Text). walk_passes losing [] (state waiting rows pending) (codes "--period" ∷ y ∷ []) ≡ true) (sym e) (hyphen_passes waiting rows pending k)
+    passes : (waiting : Waiting) (rows : List Row) (pending : Pending) → settles losing rows pending ≡ true → turn_passes losing [] (state waiting rows pending) (codes "--period") ≡ true
+    passes idle rows pending k = rw k refl
+    passes (option id) rows pending k = rw k refl
+    passes positional rows pending k = rw k refl
 
 period_apart : (o : Switch) → bytes_eq (codes "period") (switch_name o) ≡ false
 period_apart capture = refl
@@ -324,18 +240,18 @@ id_apart _ = refl
 pub period_handled : (all : List Argument) (t : Text) → value_passes period_option t ≡ true → length (given_as (codes "period") all) ≤ 1 → Handled watches all (valued (codes "period") t)
 period_handled all t pass most =
     set_handled watches all (valued (codes "period") t)
-    (set_goes watches (valued (codes "period") t) period_option (says_option watches period_option (codes "--period") t (period_joins t) (period_announces t)) (λ rows. refl) (λ rows unused. rw (unused, pass) refl)) period_apart most
+    (set_goes watches (valued (codes "period") t) period_option (says_option watches period_option (codes "--period") t (period_joins t) (announces watches period_option (codes "--period") period_waits t (λ rows. refl) (λ rows u. u))) (λ rows. refl) (λ rows unused. rw (unused, pass) refl)) period_apart most
 
 pub id_handled : (all : List Argument) (t : Text) → length (given_as (codes "id") all) ≤ 1 → Handled watches all (valued (codes "id") t)
 id_handled all t most =
     set_handled watches all (valued (codes "id") t)
-    (set_goes watches (valued (codes "id") t) id_option (says_option watches id_option (codes "--id") t (id_joins t) (id_announces t)) (λ rows. refl) (λ rows unused. rw unused refl)) id_apart most
+    (set_goes watches (valued (codes "id") t) id_option (says_option watches id_option (codes "--id") t (id_joins t) (announces watches id_option (codes "--id") id_waits t (λ rows. refl) (λ rows u. u))) (λ rows. refl) (λ rows unused. rw unused refl)) id_apart most
 
 pub stream_handled : (all : List Argument) (t : Text) → Handled losing all (valued (codes "period") t)
 stream_handled all t = record {
   appends = true;
   once = inl refl;
-  goes = λ words says w rows_so n st fits may. spelled_goes losing stream_period t words (says_option losing stream_period (codes "--period") t (stream_joins t) (stream_announces t) words says) w rows_so n st refl;
+  goes = λ words says w rows_so n st fits may. spelled_goes losing stream_period t words (says_option losing stream_period (codes "--period") t (stream_joins t) (announces losing stream_period (codes "--period") stream_waits t (λ rows. refl) (λ rows u. u)) words says) w rows_so n st refl;
   gives = λ o e. absurd (true≢false (sym e ∙ period_apart o));
 }
 
