@@ -7,7 +7,7 @@ import array
 import json
 import re
 
-from reporting.places import HEAD
+from reporting.places import HEAD, Tally
 
 # How many senders are compared, and how many of their envelopes are known again.
 MOST_SENDERS, MOST_KNOWN = 20_000, 100_000
@@ -55,22 +55,12 @@ class Layout:
                       frames.keys.append, frames.times.append, frames.packets.append)
 
 
-class Count:
-    """How often something is, and the first packet that has it."""
-
-    def __init__(self):
-        self.number, self.first = 0, None
-
-    def add(self, packet):
-        self.number, self.first = self.number + 1, self.first or packet
-
-
 class Side:
     """What one tap has: its packets and times, and the frames of each sender."""
 
     def __init__(self, name):
         self.name, self.packets, self.first, self.last = name, 0, None, None
-        self.senders, self.known, self.errors, self.left_out = {}, {}, Count(), Count()
+        self.senders, self.known, self.errors, self.left_out = {}, {}, Tally(), Tally()
         # How the last lines of senders are laid out, by so many octets of them.
         self.layouts, self.telling = {}, TELLING
 

@@ -7,9 +7,9 @@ from reporting.asking import Asked
 from reporting.inputs import opened
 from reporting.malformed import Malformed
 from reporting.recorded import OLD_PACKET, PACKET, Recorded
-from reporting.places import HEAD
+from reporting.places import HEAD, Tally
 from running import Ended
-from tapped import BEFORE, Count, Side
+from tapped import BEFORE, Side
 
 TRAILER = b'"trailer":"'
 # The digits of a redundancy control trailer (IEC 62439-3): four of the number, A or B, three of the size, and 88FB.
@@ -44,7 +44,7 @@ class Taps:
     """The two sides of captures, the messages of goose, and where a capture breaks off."""
 
     def __init__(self, progress):
-        self.progress, self.runs, self.neither = progress, [], Count()
+        self.progress, self.runs, self.neither = progress, [], Tally()
 
     def pieces(self, source, path):
         """The lines of a capture, some at once."""

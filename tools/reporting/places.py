@@ -17,6 +17,16 @@ def place(found):
     return Place(int(found[1]), int(found[2]), time and time.decode())
 
 
+class Tally:
+    """How many packets have something, and which is the first."""
+
+    def __init__(self):
+        self.number, self.first = 0, None
+
+    def add(self, packet):
+        self.number, self.first = self.number + 1, self.first or packet
+
+
 class Span:
     """How often something is seen, and where first and last: its lines may be given in any order."""
 

@@ -7,7 +7,7 @@ import zlib
 
 from output import date
 from reporting.malformed import HEAD, head_of
-from reporting.places import Place
+from reporting.places import Place, Tally
 
 PIECE = 1 << 20
 # What a file begins with: classic captures of both orders, in microseconds and nanoseconds, and pcapng.
@@ -76,16 +76,6 @@ class Comment:
         self.place, self.packet, self.told = place, place.packet, told
 
 
-class Cut:
-    """The packets of which something is not captured: how many, and the first."""
-
-    def __init__(self):
-        self.number, self.first = 0, None
-
-    def add(self, number):
-        self.number, self.first = self.number + 1, self.first or number
-
-
 class Recorded:
     """A capture's file, read once from its beginning to its end; of its packets only those that goose has answered count. Of those with an
     error it tells the heads."""
@@ -94,9 +84,9 @@ class Recorded:
         self.size, self.digest, self.interfaces = os.stat(path).st_size, hashlib.sha256(), []
         self.checksum = 0
         self.form, self.application, self.numbers, self.most = "", None, 0, packets
-        self.order, self.section, self.rest, self.skip, self.is_over, self.cut = "<", [], b"", 0, False, Cut()
+        self.order, self.section, self.rest, self.skip, self.is_over, self.cut = "<", [], b"", 0, False, Tally()
         # The packets of blocks that have no time.
-        self.simple = Cut()
+        self.simple = Tally()
         self.walk, self.fields = self.blocks, FIELDS["<"]
         # The next packet with an error, all after it, and what is told of them.
         self.after, self.heads = iter(malformed.packets), malformed.heads

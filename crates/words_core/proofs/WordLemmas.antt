@@ -43,9 +43,6 @@ subcommand_given a words r e =
     let stop = stop_after (built a).top.rules (names_of (built a)) (argument_words a words) in
     level_named (built a).top (names_of (built a)) nothing_held (argument_words a words) (is_some (entered (built a) stop)) (entered_fault (built a) stop) r e
 
-abbrev a_meaning : Asked → Option Meaning
-a_meaning t = Some (Ok t)
-
 abbrev no_meaning : Unsaid → Option Meaning
 no_meaning u = Some (Err u)
 

@@ -175,10 +175,6 @@ takes_request words = takes request_line words && is_some (request_of_words word
 abbrev pub is_option : Text → Bool
 is_option word = list_any (λ o. bytes_eq word (switch_word o)) switches
 
--- it gives one of `replay`
-abbrev pub is_replay_option : Text → Bool
-is_replay_option word = list_any (λ o. bytes_eq word (switch_word o)) replay_switches
-
 -- one of the things that stand behind the name of a command: an option without a value, the name of a file, an option of the command's
 -- own with its value, or a text
 pub data Argument : Type 0 where
