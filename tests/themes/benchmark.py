@@ -50,17 +50,22 @@ class Growth:
 
 
 class Captures:
-    """Captures of both forms stand beside the list that `import` makes, for a replay and for a watch."""
+    """Each command has a row for captures of both forms: of retransmissions, of states that come once, and of streams; and two for lists that
+    `import` makes. Beside another program each row has that one's seconds and the ratio."""
 
     name = "captures as they are, and as lists"
 
     def why_wrong(self, program):
-        ran = measured(program, 300, "--captures")
-        rows = re.findall(r"(?m)^\| (goose|samples) \| 300 \| ((?:[^|\\]|\\\|)+) \| \d+\.\d{3} \| \d+\.\d{3} \|$", ran.stdout)
-        wanted = [(traffic, row) for traffic, name in (("goose", "replay"), ("samples", "watch"))
-                  for row in (f"{name} --capture, pcapng", f"{name} --capture, classic", f"import \\| {name}")]
-        rest = {row for _, row in rows} - {row for _, row in wanted}
-        is_well = ran.returncode == 0 and [it for it in rows if it in wanted] == wanted and rest <= {"tshark -T fields"}
+        of_bays, of_streams = ["show", "show --json", "check", "blocks", "losses", "replay"], ["show", "show --json", "check", "losses", "watch"]
+        wanted = [(f"{traffic}, {form}", row) for traffic in ("goose", "events", "samples") for form in ("classic", "pcapng")
+                  for row in (of_streams if traffic == "samples" else of_bays)]
+        wanted += [(f"{traffic}, classic", f"import \\| {name}") for traffic, name in (("goose", "replay"), ("samples", "watch"))]
+        why = self.why_other(measured(program, 300, "--captures"), wanted, "")
+        return why or self.why_other(measured(program, 300, "--captures", "--beside", shlex.join(program)), wanted, r" \| (?:\d+\.\d{3}|-) \| (?:\d+\.\d\d|-)")
+
+    def why_other(self, ran, wanted, more):
+        rows = re.findall(rf"(?m)^\| (\w+, \w+) \| 300 \| ((?:[^|\\]|\\\|)+) \| \d+\.\d{{3}}{more} \|$", ran.stdout)
+        is_well = ran.returncode == 0 and [it for it in rows if it[1] != "tshark -T fields"] == wanted
         return [] if is_well else [f"status {ran.returncode}: {ran.stdout}{ran.stderr}"]
 
 

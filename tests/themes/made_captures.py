@@ -1,5 +1,6 @@
 """Captures that are made here: examples/two_bays.pcapng has the frames of two_bays.list, and both forms of what
 bench/make_capture writes have the same packets, which tshark tells too."""
+import re
 import shutil
 import subprocess
 
@@ -67,8 +68,8 @@ class Made:
         wanted = {"sv" if self.traffic == "samples" else "goose", "fault 12 EtherType"}
         why += [] if kinds == wanted and len(shown) == PACKETS else [f"{len(shown)} lines of {sorted(kinds)}"]
         if self.traffic == "events":
-            told = [line.split(" ") for line in shown if line.split(" ")[1] == "goose"]
-            why += [] if len({(*words[4:7], words[11]) for words in told}) == len(told) else ["a frame repeats the state of another"]
+            told = [re.search(r" ref=(\S+) .* st=(\d+) ", line).groups() for line in shown if " goose " in line]
+            why += [] if len(set(told)) == len(told) else ["a frame repeats the state of another"]
         return why + why_tshark_differs(pcapng) + why_tshark_differs(classic)
 
 
