@@ -818,7 +818,7 @@ class Room:
 
 # 500,000 packets of each of two captures take at most 15 s of a machine that other programs use too. The measure is what reading the lines of both as
 # JSON takes, of which those of 500,000 GOOSE frames with 20 members take 6.2 s of one processor, and those of samples 0.6 of that: so 15 s are 1.2 and
-# twice as long. It takes 0.4 to 0.5 and 0.5 to 0.9 of it, the more the busier the machine.
+# twice as long. It takes 0.4 to 0.7 and 0.5 to 1.0 of it, the more the busier the machine.
 PACKETS, FEW, BLOCKS, MEMBERS = 60_000, 1_000, 40, 20
 MOST_READINGS = {"goose": 1.0, "sv": 1.5}
 
