@@ -1,6 +1,6 @@
 -- A run over a list leaves what it was said to leave in words of the line at which it ended. This holds of the commands over lists as before, and no clause cites it.
 use Rattle.std.proofs.Common.{Option, Some, None, Ok, Err, Result, ◌≡◌, ◌⊎◌, ℕ, ◌+◌, Bool, true, false, List, [], ◌∷◌, ◌++◌, inl, inr, ap, sym, ◌∙◌, refl, subst}
-use Rattle.std.specs.Prelude.{if◌then◌else◌}
+use Rattle.std.specs.Prelude.{◌||◌, if◌then◌else◌}
 use Rattle.std.specs.Io.KnownBytes.{Appends}
 use Rattle.list_core.specs.declared.device.InputEnd.{InputEnd}
 use Rattle.list_core.specs.declared.device.InputEnd.TheVariants.{Open}
@@ -20,6 +20,8 @@ use Rattle.engine_core.specs.EngineText.{Text, ItemText, AreItemTexts, exactly, 
 use Rattle.engine_core.specs.Input.{TellsNext}
 use Rattle.engine_core.specs.Run.{AtLine, HasToKeep, IsOfLine, list_input}
 use Rattle.engine_core.specs.RunOver.{IsDue, IsUntouched, Leaves, Stops, WantsFor, ending_by_halt, fault_by_halt, step_fault}
+use Rattle.engine_core.proofs.Ends.{some_line}
+use Rattle.engine_core.proofs.ItemTexts.{or_false}
 
 -- ---- as it was said
 
@@ -112,10 +114,13 @@ module _ {S X C : Type 0} {r : Rules S X C} {s : S} {z : InputEnd} {read : List 
   wants_next (Ok None) h of (inl none) = cc
   wants_next (Err (Some f)) h of (inl none) = cc
   wants_next (Err None) h of w = inl of
-  wants_next (Ok (Some e)) h of (inr some) = inr (λ none.
+  wants_next (Ok (Some e)) h of (inr (inl k)) = absurd k
+  wants_next (Ok None) h of (inr (inl k)) = absurd k
+  wants_next (Err (Some f)) h of (inr (inl k)) = absurd k
+  wants_next (Ok (Some e)) h of (inr (inr some)) = inr (λ none.
       some _ (step_fault fault.Line e.0 (t.of_item items e)) (record { written = t.of_item items e; is_allowed = refl; has_text = refl; has_fault = refl }) (sym (ap (λ (l : Listing X C). next_text t items l.items l.stop) h.1) ∙ none))
-  wants_next (Ok None) h of (inr some) = inr (λ none. some [] None (refl, refl) refl)
-  wants_next (Err (Some f)) h of (inr some) = inr (λ none. some (t.last f) (Some f) (refl, refl) (sym (ap (λ (l : Listing X C). next_text t items l.items l.stop) h) ∙ none))
+  wants_next (Ok None) h of (inr (inr some)) = inr (λ none. some [] None (refl, refl) refl)
+  wants_next (Err (Some f)) h of (inr (inr some)) = inr (λ none. some (t.last f) (Some f) (refl, refl) (sym (ap (λ (l : Listing X C). next_text t items l.items l.stop) h) ∙ none))
 
   step_refused : (n : ℕ) (o : Result (List ℕ × Bool) C) (f : ItemFault C) → Some f ≡ step_fault fault.Line n o → (why : C) × (o ≡ Err why) × (f ≡ fault.Line n why)
   step_refused n (Ok o) f h = cc
@@ -166,7 +171,10 @@ as_before r s t ending by z read old new (inr run) =
       written = run.written;
       line = line;
       ends = elim run.ends [
-        | inl e ↦ rw (e.has_ending, e.by_none) (ended t run.texts line run.held new (has_finding run.texts) refl (subst (λ o. TellsNext o (said_onward z line)) e.ended tells) e.no_more)
-        | inr e ↦ rw (e.has_ending, e.by) (halted t run.texts line run.held new run.answer tells run.read.stands.is_of e.halt e.stops)
+        | inl e ↦
+            let found : (has_finding run.texts || has_finding e.lines) ≡ has_finding run.texts = ap (λ (l : List ItemText). has_finding run.texts || has_finding l) e.may_end ∙ or_false (has_finding run.texts) in
+            rw (e.has_ending, found, e.by_none) (ended t run.texts line run.held new (has_finding run.texts) refl (subst (λ o. TellsNext o (said_onward z line)) e.ended tells) (e.no_more e.may_end))
+        | inr (inr e) ↦ some_line e.lines e.before e.line e.may_end e.is_line
+        | inr (inl e) ↦ rw (e.has_ending, e.by) (halted t run.texts line run.held new run.answer tells run.read.stands.is_of e.halt e.stops)
       ];
     })

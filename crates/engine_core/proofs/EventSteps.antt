@@ -13,7 +13,8 @@ use Rattle.engine_core.specs.computed.EventStep.{EventTaken}
 
 -- two engines that may write the same of events may do so over an input of events
 pub alike_over : {A C F : Type 0} (a b : EventAllows A) (last_line : F → List ℕ) → AlikeEvents a b → Alike (over_allowed {C = C} a last_line) (over_allowed {C = C} b last_line)
-alike_over {A} {C} a b last_line same = record { first = refl; there = there; back = back; last = λ f. refl }
+alike_over {A} {C} a b last_line same =
+    record { first = refl; there = there; back = back; keeps = λ before e is. is; keeps_back = λ before e is. is; ends = λ items lines is. is; ends_back = λ items lines is. is; last = λ f. refl }
   where
     there : (before : List (ℕ × Event A)) (e : ℕ × Event A) (written : Result (List ℕ × Bool) C) → AllowsStep a before e written → AllowsStep b before e written
     there before e (Ok written) is = same.there before e written is
@@ -25,7 +26,8 @@ alike_over {A} {C} a b last_line same = record { first = refl; there = there; ba
 
 -- a text of events that is fixed is so over an input of events
 pub exactly_over : {A C F : Type 0} (text : EventText A) (last_line : F → List ℕ) → Alike (over_allowed {C = C} (exactly_event text) last_line) (exactly (over_events {C = C} text last_line))
-exactly_over {A} {C} text last_line = record { first = refl; there = there; back = back; last = λ f. refl }
+exactly_over {A} {C} text last_line =
+    record { first = refl; there = there; back = back; keeps = λ before e is. is; keeps_back = λ before e is. is; ends = λ items lines is. is; ends_back = λ items lines is. is; last = λ f. refl }
   where
     there : (before : List (ℕ × Event A)) (e : ℕ × Event A) (written : Result (List ℕ × Bool) C) → AllowsStep (exactly_event text) before e written → Ok (text before e) ≡ written
     there before e (Ok written) is = ap (λ (w : List ℕ × Bool). Ok w) is

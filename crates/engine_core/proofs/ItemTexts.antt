@@ -11,7 +11,7 @@ use Rattle.engine_core.specs.computed.WholeText.{Account, told_after, put_step}
 abbrev pub behind : {C : Type 0} → List ItemText → Account C → Account C
 behind texts o = record { text = joined_texts texts ++ o.text; found = has_finding texts || o.found; stop = o.stop }
 
-or_assoc : (a b c : Bool) → (a || (b || c)) ≡ ((a || b) || c)
+pub or_assoc : (a b c : Bool) → (a || (b || c)) ≡ ((a || b) || c)
 or_assoc true b c = refl
 or_assoc false b c = refl
 

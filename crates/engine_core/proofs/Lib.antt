@@ -3,6 +3,8 @@ pub mod DatesAway
 pub mod PlainRuns
 pub mod Wanted
 pub mod ItemTexts
+pub mod Ends
+pub mod EndRuns
 pub mod EventSteps
 pub mod EngineSteps
 pub mod ReaderRuns

@@ -1,5 +1,5 @@
 -- What several answers of a reader of items make an engine write, whatever its input.
-use Rattle.std.proofs.Common.{Option, Some, None, Ok, Err, Result, ◌≡◌, ℕ, Bool, true, false, List, [], ◌∷◌, ◌++◌, inl, inr, ap, ap₂, sym, ◌∙◌, refl, subst}
+use Rattle.std.proofs.Common.{Option, Some, None, Ok, Err, Result, ◌≡◌, ◌⊎◌, ℕ, Bool, true, false, List, [], ◌∷◌, ◌++◌, inl, inr, ap, ap₂, sym, ◌∙◌, refl, subst}
 use Rattle.std.specs.Prelude.{◌||◌, if◌then◌else◌}
 use Rattle.std.proofs.lemmas.List.{append-nil}
 use Rattle.std.proofs.lemmas.Grind.{flat_map-append}
@@ -14,8 +14,8 @@ use Rattle.engine_core.specs.declared.stopped.Halt.{Halt}
 use Rattle.engine_core.specs.declared.stopped.Halt.TheVariants as halt
 use Rattle.engine_core.specs.EngineText.{Alike, Allowed, ItemText, has_finding, joined_texts}
 use Rattle.engine_core.specs.Input.{Faults, Reader}
-use Rattle.engine_core.specs.RunOver.{IsDue, LeavesSo, Run, RunsOver, Stops, WantsFor, ending_by_halt, fault_by_halt, step_fault, stopped_at}
-use Rattle.engine_core.proofs.EngineSteps.{stops_alike}
+use Rattle.engine_core.specs.RunOver.{EndsThere, HaltsAtEnd, IsDue, LeavesSo, Run, RunsOver, Stops, WantsFor, ending_by_halt, fault_by_halt, step_fault, stopped_at}
+use Rattle.engine_core.proofs.EngineSteps.{closes_alike, stops_alike}
 use Rattle.engine_core.proofs.ItemTexts.{AreNext, are_texts, next_push, or_false}
 
 -- a reader gave one item more
@@ -57,8 +57,8 @@ module _ {I X C F : Type 0} (reader : Reader I X C F) (t : Allowed X C F) where
 
   module _ (a b c : I) (es : List (ℕ × X)) (old start mid new : Option (List ℕ)) (found : Bool) (first : Appends old start t.first) (p : Ran a b es start mid found) where
     -- the input has ended
-    pub ended : reader.answers b (Ok None) c → new ≡ mid → RunsOver reader t a (stopped_at (if found then Findings else Done) None c) old new
-    ended q x = inr (record {
+    pub closed : (ending : Ending) (fault : Option F) → reader.answers b (Ok None) c → EndsThere t es p.texts (Ok None) ending fault mid new ⊎ HaltsAtEnd t es (Ok None) ending fault mid new → RunsOver reader t a (stopped_at ending fault c) old new
+    closed ending fault q x = inr (record {
       items = es;
       texts = p.texts;
       are_texts = are_texts t es p.texts p.are_next;
@@ -66,7 +66,7 @@ module _ {I X C F : Type 0} (reader : Reader I X C F) (t : Allowed X C F) where
       written = Appends-append old start mid t.first (joined_texts p.texts) first p.wrote;
       answer = Ok None;
       read = record { before = b; gave = p.gave; answered = q };
-      ends = inl (record { ended = refl; has_ending = ap (λ f. if f then Findings else Done) (sym p.finds); by_none = refl; no_more = x });
+      ends = elim x [ inl e ↦ inl e | inr e ↦ inr (inr e) ];
     })
 
     -- the run stopped
@@ -80,7 +80,7 @@ module _ {I X C F : Type 0} (reader : Reader I X C F) (t : Allowed X C F) where
       written = Appends-append old start mid t.first (joined_texts p.texts) first p.wrote;
       answer = answer;
       read = record { before = b; gave = p.gave; answered = q };
-      ends = inr (record { halt = h; stops = x; has_ending = refl; by = refl });
+      ends = inr (inl (record { halt = h; stops = x; has_ending = refl; by = refl }));
     })
 
   -- the first text was not written whole, and the reader is untouched
@@ -116,10 +116,15 @@ module _ {X C F : Type 0} {Untouched : Type 0} {IsReadSo : List (ℕ × X) → A
     answer = run.answer;
     read = run.read;
     ends = elim run.ends [
-      | inl e ↦ inl e
-      | inr e ↦ inr (record { halt = e.halt; stops = stops_alike faults.refused a b same run.items run.answer e.halt run.held new e.stops; has_ending = e.has_ending; by = e.by })
+      | inl e ↦ left (closes_alike a b same run.items run.texts run.answer ending fault run.held new (inl e))
+      | inr (inr e) ↦ left (closes_alike a b same run.items run.texts run.answer ending fault run.held new (inr e))
+      | inr (inl e) ↦ inr (inl (record { halt = e.halt; stops = stops_alike faults.refused a b same run.items run.answer e.halt run.held new e.stops; has_ending = e.has_ending; by = e.by }))
     ];
   })
+    where
+      left : {P Q R : Type 0} → P ⊎ R → P ⊎ Q ⊎ R
+      left (inl p) = inl p
+      left (inr r) = inr (inr r)
 
 -- ---- a run that ends since its source failed
 
@@ -158,6 +163,10 @@ module _ {X C F : Type 0} (IsReadSo : List (ℕ × X) → AnswerOf X F → Type 
   pub failed_read : {Untouched : Type 0} (ending : Ending) (fault : Option F) (old new : Option (List ℕ)) → LeavesSo Untouched IsReadSo faults t ending fault old new → ending ≡ ReadFault → FailedRead
   failed_read ending fault old new (inl w) is = let e = w.write_fault in cc
   failed_read ending fault old new (inr run) is = elim run.ends [
-    | inl e ↦ absurd (whole_ending (has_finding run.texts) (sym e.has_ending ∙ is))
-    | inr e ↦ by_halt run.items run.answer run.read e.halt run.held new e.stops (sym e.has_ending ∙ is)
+    | inl e ↦ absurd (whole_ending (has_finding run.texts || has_finding e.lines) (sym e.has_ending ∙ is))
+    | inr (inr e) ↦ elim e.stops [
+      | inl w ↦ let other = w.0 in cc
+      | inr w ↦ let other = w.0 in cc
+    ]
+    | inr (inl e) ↦ by_halt run.items run.answer run.read e.halt run.held new e.stops (sym e.has_ending ∙ is)
   ]

@@ -1,24 +1,25 @@
 -- A run leaves of a whole text that is allowed for what its input says: all, or a front.
-use Rattle.std.proofs.Common.{Option, Some, None, Ok, Err, Result, ◌≡◌, ◌⊎◌, ℕ, Bool, true, false, List, [], ◌∷◌, ◌++◌, inl, inr, ap, sym, ◌∙◌, refl, subst}
-use Rattle.std.specs.Prelude.{if◌then◌else◌}
+use Rattle.std.proofs.Common.{Option, Some, None, Ok, Err, Result, ◌≡◌, ◌⊎◌, ℕ, suc, drop, take, Bool, true, false, List, [], ◌∷◌, ◌++◌, inl, inr, ap, sym, ◌∙◌, refl, subst}
+use Rattle.std.specs.Prelude.{◌||◌, if◌then◌else◌}
 use Rattle.std.proofs.lemmas.List.{append_assoc, append-nil}
 use Rattle.std.proofs.lemmas.Grind.{flat_map-append}
 use Rattle.std.specs.Io.KnownBytes.{Appends}
 use Rattle.list_core.specs.declared.device.InputEnd.{InputEnd}
 use Rattle.list_core.specs.Device.{AppendsPrefix}
-use Rattle.list_core.specs.Lines.{Stop, finished, faulty}
+use Rattle.list_core.specs.Lines.{Stop, finished, unfinished, faulty}
 use Rattle.list_core.specs.Items.{Numbered, put_items, stops}
 use Rattle.list_core.specs.ReadItems.{AnswerOf}
-use Rattle.list_core.proofs.Devices.{Appends-append, Appends-none, AppendsPrefix-append, AppendsPrefix-more}
+use Rattle.list_core.proofs.Devices.{Appends-append, AppendsPrefix-append, AppendsPrefix-more}
 use Rattle.engine_core.specs.declared.ending.Ending.{Ending}
 use Rattle.engine_core.specs.declared.ending.Ending.TheVariants.{Done, Findings, InputFault, ReadFault}
 use Rattle.engine_core.specs.declared.stopped.Halt.{Halt}
 use Rattle.engine_core.specs.declared.stopped.Halt.TheVariants as halt
 use Rattle.engine_core.specs.EngineText.{Allowed, AreAllowedTexts, ItemText, has_finding, joined_texts, step_text_to}
 use Rattle.engine_core.specs.Input.{Faults, Input, TellsNext}
-use Rattle.engine_core.specs.RunOver.{EndsThere, FailsBefore, IsDue, Run, Stops, WantsFor, ending_by_halt, fault_by_halt, step_fault}
-use Rattle.engine_core.specs.WholeRun.{AllowsEach, GoesOn, InputsAreWrittenWhole, IsTextOnward, IsWholeText, IsWrittenWhole, LeavesAll, LeavesFront, LeavesToFault, LeavesWholeText, RefusesItem, SaysFirst, stop_text}
+use Rattle.engine_core.specs.RunOver.{EndsThere, FailsBefore, HaltsAtEnd, IsDue, Run, Stops, WantsFor, ending_by_halt, fault_by_halt, step_fault}
+use Rattle.engine_core.specs.WholeRun.{AllowsEach, GoesOn, InputsAreWrittenWhole, IsTextOnward, IsWholeText, IsWrittenWhole, LeavesAll, LeavesFront, LeavesToFault, LeavesWholeText, RefusesItem, SaysFirst, StopsWith}
 use Rattle.engine_core.proofs.ReaderRuns.{run_as}
+use Rattle.engine_core.proofs.Ends.{joined_at}
 use Rattle.engine_core.proofs.ItemTexts.{are_next, are_texts, next_push}
 
 module _ {X C F : Type 0} (refused : ℕ → C → F) (t : Allowed X C F) (said : Numbered X F) where
@@ -27,14 +28,21 @@ module _ {X C F : Type 0} (refused : ℕ → C → F) (t : Allowed X C F) (said 
   up_to texts = t.first ++ joined_texts texts
 
   -- behind these items the input stops
-  pub whole_at : (items : List (ℕ × X)) (texts : List ItemText) → AreAllowedTexts t items texts → (onward : Numbered X F) → said ≡ put_items items onward → (stop : Stop F) → onward ≡ stops stop →
-      IsWholeText refused t said (t.first ++ (joined_texts texts ++ stop_text t stop)) (has_finding texts) stop
-  whole_at items texts are onward says stop is = record { items = items; texts = texts; are_texts = are; onward = onward; says = says; stops_so = inl is; is_text = refl; finds = refl }
+  pub whole_at : (items : List (ℕ × X)) (texts : List ItemText) → AreAllowedTexts t items texts → (onward : Numbered X F) → said ≡ put_items items onward → (stop : Stop F) → onward ≡ stops stop → (last : List ℕ × Bool) → StopsWith t items stop last →
+      IsWholeText refused t said (t.first ++ (joined_texts texts ++ last.0)) (has_finding texts || last.1) stop
+  whole_at items texts are onward says stop is last with_last = record { items = items; texts = texts; are_texts = are; onward = onward; says = says; stops_so = inl is; last = last; stops_with = with_last; is_text = refl; finds = refl }
+
+  -- what may be last, by how it stops
+  some_last : AllowsEach t → (items : List (ℕ × X)) (stop : Stop F) → (last : List ℕ × Bool) × StopsWith t items stop last
+  some_last each items finished = let end = each.at_end items in ((joined_texts end.0, has_finding end.0), (end.0, end.1, refl))
+  some_last each items unfinished = (([], false), refl)
+  some_last each items (faulty f) = ((t.last f, false), refl)
 
   -- behind these items one is refused
   pub whole_refused : (items : List (ℕ × X)) (texts : List ItemText) → AreAllowedTexts t items texts → (onward : Numbered X F) → said ≡ put_items items onward → (why : F) → RefusesItem refused t items onward why →
-      IsWholeText refused t said (t.first ++ (joined_texts texts ++ t.last why)) (has_finding texts) (faulty why)
-  whole_refused items texts are onward says why is = record { items = items; texts = texts; are_texts = are; onward = onward; says = says; stops_so = inr (why, is, refl); is_text = refl; finds = refl }
+      IsWholeText refused t said (t.first ++ (joined_texts texts ++ t.last why)) (has_finding texts || false) (faulty why)
+  whole_refused items texts are onward says why is =
+      record { items = items; texts = texts; are_texts = are; onward = onward; says = says; stops_so = inr (why, is, refl); last = (t.last why, false); stops_with = refl; is_text = refl; finds = refl }
 
   -- a text more
   text_more : (texts : List ItemText) (w : ItemText) → up_to (texts ++ w ∷ []) ≡ up_to texts ++ w.text
@@ -51,16 +59,18 @@ module _ {X C F : Type 0} (refused : ℕ → C → F) (t : Allowed X C F) (said 
 
   -- behind these items, where of each something may be written
   goes_behind : AllowsEach t → (es : List (ℕ × X)) (stop : Stop F) (items : List (ℕ × X)) (texts : List ItemText) → AreAllowedTexts t items texts → said ≡ put_items items (record { items = es; stop = stop }) → GoesOn refused t said (up_to texts)
-  goes_behind each [] stop items texts are says = record {
-    text = t.first ++ (joined_texts texts ++ stop_text t stop);
-    found = has_finding texts;
-    stop = stop;
-    is_whole = whole_at items texts are (stops stop) says stop refl;
-    more = stop_text t stop;
-    goes_on = sym (append_assoc t.first (joined_texts texts) (stop_text t stop));
-  }
+  goes_behind each [] stop items texts are says =
+      let end = some_last each items stop in
+      record {
+        text = t.first ++ (joined_texts texts ++ end.0.0);
+        found = has_finding texts || end.0.1;
+        stop = stop;
+        is_whole = whole_at items texts are (stops stop) says stop refl end.0 end.1;
+        more = end.0.0;
+        goes_on = sym (append_assoc t.first (joined_texts texts) end.0.0);
+      }
   goes_behind each (e ∷ es) stop items texts are says =
-      by (each items e).0 (each items e).1 (λ w s. goes_behind each es stop (items ++ e ∷ []) (texts ++ w ∷ []) (texts_more items texts e w are s) (says_more items e es stop says))
+      by (each.of_item items e).0 (each.of_item items e).1 (λ w s. goes_behind each es stop (items ++ e ∷ []) (texts ++ w ∷ []) (texts_more items texts e w are s) (says_more items e es stop says))
     where
       by : (written : Result (List ℕ × Bool) C) → t.of_item items e written → ((w : ItemText) → t.of_item items e (Ok (w.text, w.is_finding)) → GoesOn refused t said (up_to (texts ++ w ∷ []))) → GoesOn refused t said (up_to texts)
       by (Ok s) is onward =
@@ -78,7 +88,7 @@ module _ {X C F : Type 0} (refused : ℕ → C → F) (t : Allowed X C F) (said 
           let f : F = refused e.0 why in
           record {
             text = t.first ++ (joined_texts texts ++ t.last f);
-            found = has_finding texts;
+            found = has_finding texts || false;
             stop = faulty f;
             is_whole = whole_refused items texts are (record { items = e ∷ es; stop = stop }) says f (record { item = e; others = record { items = es; stop = stop }; cause = why; is_next = refl; is_refused = is; is_fault = refl });
             more = t.last f;
@@ -89,12 +99,12 @@ module _ {X C F : Type 0} (refused : ℕ → C → F) (t : Allowed X C F) (said 
   goes_next : AllowsEach t → (es : List (ℕ × X)) (stop : Stop F) (items : List (ℕ × X)) (texts : List ItemText) → AreAllowedTexts t items texts → said ≡ put_items items (record { items = es; stop = stop }) → (next : List ℕ) → IsTextOnward refused t items es stop next →
       GoesOn refused t said (up_to texts ++ next)
   goes_next each [] stop items texts are says next is = record {
-    text = t.first ++ (joined_texts texts ++ stop_text t stop);
-    found = has_finding texts;
+    text = t.first ++ (joined_texts texts ++ next);
+    found = has_finding texts || is.0;
     stop = stop;
-    is_whole = whole_at items texts are (stops stop) says stop refl;
+    is_whole = whole_at items texts are (stops stop) says stop refl (next, is.0) is.1;
     more = [];
-    goes_on = sym (append_assoc t.first (joined_texts texts) (stop_text t stop)) ∙ ap (λ (l : List ℕ). up_to texts ++ l) (sym is) ∙ sym (append-nil (up_to texts ++ next));
+    goes_on = sym (append_assoc t.first (joined_texts texts) next) ∙ sym (append-nil (up_to texts ++ next));
   }
   goes_next each (e ∷ es) stop items texts are says next is = by is.0 is.1 is.2
     where
@@ -114,7 +124,7 @@ module _ {X C F : Type 0} (refused : ℕ → C → F) (t : Allowed X C F) (said 
           let f : F = refused e.0 why in
           record {
             text = t.first ++ (joined_texts texts ++ t.last f);
-            found = has_finding texts;
+            found = has_finding texts || false;
             stop = faulty f;
             is_whole = whole_refused items texts are (record { items = e ∷ es; stop = stop }) says f (record { item = e; others = record { items = es; stop = stop }; cause = why; is_next = refl; is_refused = may; is_fault = refl });
             more = [];
@@ -146,11 +156,11 @@ module _ {X C F : Type 0} (refused : ℕ → C → F) (t : Allowed X C F) (items
       (inl (rw same at h), due.0 ∙ ap t.last same)
   closes (Err None) onward h f text due = absurd due
 
-  -- what is due for an answer may be written next
-  due_onward : (answer : AnswerOf X F) (onward : Numbered X F) → TellsNext answer onward → (text : List ℕ) (closing : Option F) → IsDue refused t items answer text closing → IsTextOnward refused t items onward.items onward.stop text
-  due_onward (Ok (Some e)) onward h text closing due = subst (λ (l : Numbered X F). IsTextOnward refused t items l.items l.stop text) (sym h.1) (due.written, due.is_allowed, due.has_text)
-  due_onward (Ok None) onward h text closing due = subst (λ (l : Numbered X F). IsTextOnward refused t items l.items l.stop text) (sym h) due.0
-  due_onward (Err (Some f)) onward h text closing due = subst (λ (l : Numbered X F). IsTextOnward refused t items l.items l.stop text) (sym h) due.0
+  -- what is due for an answer may be written next, or is nothing
+  due_onward : (answer : AnswerOf X F) (onward : Numbered X F) → TellsNext answer onward → (text : List ℕ) (closing : Option F) → IsDue refused t items answer text closing → (text ≡ []) ⊎ IsTextOnward refused t items onward.items onward.stop text
+  due_onward (Ok (Some e)) onward h text closing due = inr (subst (λ (l : Numbered X F). IsTextOnward refused t items l.items l.stop text) (sym h.1) (due.written, due.is_allowed, due.has_text))
+  due_onward (Ok None) onward h text closing due = inl due.0
+  due_onward (Err (Some f)) onward h text closing due = inr (subst (λ (l : Numbered X F). IsTextOnward refused t items l.items l.stop text) (sym h) (false, ap (λ (l : List ℕ). (l, false)) due.0))
   due_onward (Err None) onward h text closing due = absurd due
 
 module _ {X C F : Type 0} (faults : Faults C F) (t : Allowed X C F) (said : Numbered X F) (ending : Ending) (fault : Option F) (old new : Option (List ℕ)) (run : Run (SaysFirst said) faults t ending fault old new) where
@@ -161,16 +171,16 @@ module _ {X C F : Type 0} (faults : Faults C F) (t : Allowed X C F) (said : Numb
   all_written : (last : List ℕ) → Appends run.held new last → Appends old new (t.first ++ (joined_texts run.texts ++ last))
   all_written last w = subst (λ (l : List ℕ). Appends old new l) (append_assoc t.first (joined_texts run.texts) last) (Appends-append old run.held new _ last run.written w)
 
-  by_end : EndsThere run.texts run.answer ending fault run.held new → (found : Bool) → has_finding run.texts ≡ found → LeavesAll faults t said found fault old new
+  by_end : (e : EndsThere t run.items run.texts run.answer ending fault run.held new) (found : Bool) → (has_finding run.texts || has_finding e.lines) ≡ found → LeavesAll faults t said found fault old new
   by_end e found finds = record {
-    text = t.first ++ (joined_texts run.texts ++ []);
-    is_whole = subst (λ (f : Bool). IsWholeText faults.refused t said (t.first ++ (joined_texts run.texts ++ [])) f finished) finds
-        (whole_at faults.refused t said run.items run.texts run.are_texts onward run.read.1 finished (subst (λ o. TellsNext o onward) e.ended run.read.2));
+    text = t.first ++ (joined_texts run.texts ++ joined_texts e.lines);
+    is_whole = subst (λ (f : Bool). IsWholeText faults.refused t said (t.first ++ (joined_texts run.texts ++ joined_texts e.lines)) f finished) finds
+        (whole_at faults.refused t said run.items run.texts run.are_texts onward run.read.1 finished (subst (λ o. TellsNext o onward) e.ended run.read.2) (joined_texts e.lines, has_finding e.lines) (e.lines, e.may_end, refl));
     by_none = e.by_none;
-    written = all_written [] (rw e.no_more (Appends-none run.held));
+    written = all_written (joined_texts e.lines) e.written;
   }
 
-  by_found : EndsThere run.texts run.answer ending fault run.held new → (found : Bool) → has_finding run.texts ≡ found → LeavesWholeText faults t (if found then Findings else Done) said fault old new
+  by_found : (e : EndsThere t run.items run.texts run.answer ending fault run.held new) (found : Bool) → (has_finding run.texts || has_finding e.lines) ≡ found → LeavesWholeText faults t (if found then Findings else Done) said fault old new
   by_found e true finds = by_end e true finds
   by_found e false finds = by_end e false finds
 
@@ -181,9 +191,9 @@ module _ {X C F : Type 0} (faults : Faults C F) (t : Allowed X C F) (said : Numb
       record {
         why = why;
         text = t.first ++ (joined_texts run.texts ++ t.last why);
-        found = has_finding run.texts;
+        found = has_finding run.texts || false;
         is_whole = elim c.0 [
-          | inl h ↦ whole_at faults.refused t said run.items run.texts run.are_texts onward run.read.1 (faulty why) h
+          | inl h ↦ whole_at faults.refused t said run.items run.texts run.are_texts onward run.read.1 (faulty why) h (t.last why, false) refl
           | inr x ↦ whole_refused faults.refused t said run.items run.texts run.are_texts onward run.read.1 why x
         ];
         by = by;
@@ -199,24 +209,38 @@ module _ {X C F : Type 0} (faults : Faults C F) (t : Allowed X C F) (said : Numb
       by_which false l = l
 
   -- a front stands written, or a prefix of one
-  by_writer : fault ≡ None → (text : List ℕ) → IsTextOnward faults.refused t run.items onward.items onward.stop text → AppendsPrefix run.held new text → LeavesFront faults t said fault old new
+  by_writer : fault ≡ None → (text : List ℕ) → (text ≡ []) ⊎ IsTextOnward faults.refused t run.items onward.items onward.stop text → AppendsPrefix run.held new text → LeavesFront faults t said fault old new
   by_writer by text next w = record {
     by_none = by;
     front = up_to faults.refused t said run.texts ++ text;
-    is_front = record { items = run.items; texts = run.texts; are_texts = run.are_texts; onward = onward; says = run.read.1; next = text; is_next = inr next; is_text = refl };
+    is_front = record { items = run.items; texts = run.texts; are_texts = run.are_texts; onward = onward; says = run.read.1; next = text; is_next = next; is_text = refl };
     written = AppendsPrefix-append old run.held new _ text run.written w;
-    of_whole = λ each. goes_next faults.refused t said each onward.items onward.stop run.items run.texts run.are_texts run.read.1 text next;
+    of_whole = λ each. elim next [
+      | inl none ↦ subst (λ (l : List ℕ). GoesOn faults.refused t said (up_to faults.refused t said run.texts ++ l)) (sym none)
+          (subst (λ l. GoesOn faults.refused t said l) (sym (append-nil (up_to faults.refused t said run.texts)))
+          (goes_behind faults.refused t said each onward.items onward.stop run.items run.texts run.are_texts run.read.1))
+      | inr is ↦ goes_next faults.refused t said each onward.items onward.stop run.items run.texts run.are_texts run.read.1 text is
+    ];
   }
 
   by_memory : fault ≡ None → new ≡ run.held → LeavesFront faults t said fault old new
-  by_memory by same = record {
-    by_none = by;
-    front = up_to faults.refused t said run.texts ++ [];
-    is_front = record { items = run.items; texts = run.texts; are_texts = run.are_texts; onward = onward; says = run.read.1; next = []; is_next = inl refl; is_text = refl };
-    written = rw same (AppendsPrefix-append old run.held run.held _ [] run.written (front_none run.held []));
-    of_whole = λ each. subst (λ l. GoesOn faults.refused t said l) (sym (append-nil (up_to faults.refused t said run.texts)))
-        (goes_behind faults.refused t said each onward.items onward.stop run.items run.texts run.are_texts run.read.1);
-  }
+  by_memory by same = by_writer by [] (inl refl) (rw same (front_none run.held []))
+
+  -- the run stopped at a line at the end
+  by_line : (e : HaltsAtEnd t run.items run.answer ending fault run.held new) → AppendsPrefix e.mid new e.line.text → LeavesFront faults t said fault old new
+  by_line e w =
+      let over : onward ≡ stops finished = subst (λ o. TellsNext o onward) e.ended run.read.2 in
+      let rest : List ℕ = joined_texts (drop (suc e.before) e.lines) in
+      by_writer e.by_none (joined_texts e.lines)
+      (inr (subst (λ (l : Numbered X F). IsTextOnward faults.refused t run.items l.items l.stop (joined_texts e.lines)) (sym over) (has_finding e.lines, (e.lines, e.may_end, refl))))
+      (subst (λ (l : List ℕ). AppendsPrefix run.held new l) (append_assoc (joined_texts (take e.before e.lines)) e.line.text rest ∙ sym (joined_at e.lines e.before e.line e.is_line))
+      (AppendsPrefix-more run.held new (joined_texts (take e.before e.lines) ++ e.line.text) rest (AppendsPrefix-append run.held e.mid new (joined_texts (take e.before e.lines)) e.line.text e.written w)))
+
+  by_end_line : HaltsAtEnd t run.items run.answer ending fault run.held new → LeavesWholeText faults t ending said fault old new
+  by_end_line e = elim e.stops [
+    | inl w ↦ subst (λ (o : Ending). LeavesWholeText faults t o said fault old new) (sym w.0) (by_line e w.1)
+    | inr w ↦ subst (λ (o : Ending). LeavesWholeText faults t o said fault old new) (sym w.0) (by_line e (rw w.2 (front_none e.mid e.line.text)))
+  ]
 
   by_halt : (h : Halt F) → Stops (WantsFor faults.refused t run.items run.answer) (IsDue faults.refused t run.items run.answer) h run.held new → fault ≡ fault_by_halt h → LeavesWholeText faults t (ending_by_halt faults.failed h) said fault old new
   by_halt (halt.Fault why) s by = by_failed why (by_fault why s.0 s.1 s.2 by)
@@ -225,8 +249,9 @@ module _ {X C F : Type 0} (faults : Faults C F) (t : Allowed X C F) (said : Numb
 
   run_whole : LeavesWholeText faults t ending said fault old new
   run_whole = elim run.ends [
-    | inl e ↦ subst (λ (o : Ending). LeavesWholeText faults t o said fault old new) (sym e.has_ending) (by_found e (has_finding run.texts) refl)
-    | inr e ↦ subst (λ (o : Ending). LeavesWholeText faults t o said fault old new) (sym e.has_ending) (by_halt e.halt e.stops e.by)
+    | inl e ↦ subst (λ (o : Ending). LeavesWholeText faults t o said fault old new) (sym e.has_ending) (by_found e (has_finding run.texts || has_finding e.lines) refl)
+    | inr (inr e) ↦ by_end_line e
+    | inr (inl e) ↦ subst (λ (o : Ending). LeavesWholeText faults t o said fault old new) (sym e.has_ending) (by_halt e.halt e.stops e.by)
   ]
 
 -- nothing of an input was written

@@ -1,5 +1,5 @@
 -- A run leaves written of the whole text of the list that it read: all, or a front.
-use Rattle.std.proofs.Common.{Option, Ok, Err, Result, ◌≡◌, ℕ, Bool, List, [], ◌∷◌, ◌++◌, inl, inr, ap, ap₂, sym, ◌∙◌, refl, subst}
+use Rattle.std.proofs.Common.{Option, Ok, Err, Result, ◌≡◌, ℕ, Bool, false, List, [], ◌∷◌, ◌++◌, inl, inr, ap, ap₂, sym, ◌∙◌, refl, subst}
 use Rattle.std.specs.Prelude.{◌||◌}
 use Rattle.std.specs.Io.KnownBytes.{Appends}
 use Rattle.list_core.specs.declared.device.InputEnd.{InputEnd}
@@ -11,23 +11,23 @@ use Rattle.list_core.specs.Items.{Listing, listing}
 use Rattle.list_core.proofs.Devices.{AppendsPrefix-more}
 use Rattle.engine_core.specs.declared.ending.Ending.{Ending}
 use Rattle.engine_core.specs.declared.ending.Ending.TheVariants.{Done, Findings, InputFault, ReadFault, WriteFault, Memory}
-use Rattle.engine_core.specs.EngineText.{Text, exactly, has_finding, joined_texts, last_text}
+use Rattle.engine_core.specs.EngineText.{ItemText, Text, exactly, has_finding, joined_texts, last_text}
 use Rattle.engine_core.specs.Run.{list_faults, list_input}
-use Rattle.engine_core.specs.WholeRun.{AllowsEach, IsWholeText, LeavesFront, LeavesToFault, LeavesWholeText, StopsBehind, stop_text}
+use Rattle.engine_core.specs.WholeRun.{AllowsEach, IsWholeText, LeavesFront, LeavesToFault, LeavesWholeText, StopsBehind, StopsWith}
 use Rattle.engine_core.specs.Laws.{LeavesFaulty, LeavesOfWhole, RunsWriteWholeTexts}
 use Rattle.engine_core.specs.computed.WholeText.{Account, put_step, told, told_after, told_rest, told_stop, whole_text}
-use Rattle.engine_core.proofs.ItemTexts.{behind, or_false, told_behind}
+use Rattle.engine_core.proofs.ItemTexts.{behind, told_behind}
 use Rattle.engine_core.proofs.WholeRuns.{input_is}
 
 -- of each item something may be written, where its text is fixed
 pub exactly_each : {X C : Type 0} (t : Text X C) → AllowsEach (exactly t)
-exactly_each t before e = (t.of_item before e, refl)
+exactly_each t = record { of_item = λ before e. (t.of_item before e, refl); at_end = λ items. ([], refl) }
 
 module _ {X C : Type 0} (t : Text X C) where
-  last_is : (stop : Stop (ItemFault C)) → stop_text (exactly t) stop ≡ last_text t stop
-  last_is finished = refl
-  last_is unfinished = refl
-  last_is (faulty f) = refl
+  last_is : (items : List (ℕ × X)) (stop : Stop (ItemFault C)) (last : List ℕ × Bool) → StopsWith (exactly t) items stop last → last ≡ (last_text t stop, false)
+  last_is items finished last (lines, none, is) = is ∙ ap (λ (l : List ItemText). (joined_texts l, has_finding l)) none
+  last_is items unfinished last is = is
+  last_is items (faulty f) last is = is
 
   told_first : (es : List (ℕ × X)) (e : ℕ × X) (rest : List (ℕ × X)) (stop : Stop (ItemFault C)) → told_after t es (e ∷ rest) stop ≡ put_step t e.0 (t.of_item es e) (told_after t (es ++ e ∷ []) rest stop)
   unfolding told_after
@@ -52,11 +52,12 @@ module _ {X C : Type 0} (t : Text X C) where
 
   is_told : (l : Listing X C) (text : List ℕ) (found : Bool) (stop : Stop (ItemFault C)) → IsWholeText fault.Line (exactly t) l text found stop → IsTold l text found stop
   is_told l text found stop w =
+      let last : w.last ≡ (last_text t stop, false) = last_is w.items stop w.last w.stops_with in
       let same : told t l ≡ behind w.texts (told_stop t stop) =
       ap (told t) w.says ∙ told_behind t w.items w.texts w.onward.items w.onward.stop w.are_texts ∙ ap (behind w.texts) (told_onward w.items w.onward stop w.stops_so) in
       record {
-        is_text = w.is_text ∙ ap (λ l. t.first ++ (joined_texts w.texts ++ l)) (last_is stop) ∙ sym (ap (λ (o : Account C). t.first ++ o.text) same);
-        finds = ap (λ (o : Account C). o.found) same ∙ or_false (has_finding w.texts) ∙ w.finds;
+        is_text = w.is_text ∙ ap (λ (l : List ℕ × Bool). t.first ++ (joined_texts w.texts ++ l.0)) last ∙ sym (ap (λ (o : Account C). t.first ++ o.text) same);
+        finds = ap (λ (o : Account C). o.found) same ∙ ap (λ (l : List ℕ × Bool). has_finding w.texts || l.1) (sym last) ∙ w.finds;
         stops = ap (λ (o : Account C). o.stop) same;
       }
 

@@ -16,34 +16,50 @@ pub record TextTo (X C F : Type 0) : Type 0 where
   -- last, on a fault
   pub last : F → List ℕ
 
+-- what is written of one item, or in one line at the end: its text, and whether it is a finding
+pub record ItemText : Type 0 where
+  pub text : List ℕ
+  pub is_finding : Bool
+
 -- What an engine may write of items, where what it writes for one need not be fixed: each result is allowed or not.
 pub record Allowed (X C F : Type 0) : Type 1 where
   -- before anything is read
   pub first : List ℕ
   -- after these items, for this one: a text, and whether it is a finding; or why it is refused
   pub of_item : List (ℕ × X) → ℕ × X → Result (List ℕ × Bool) C → Type 0
+  -- after these items, memory may be wanted for what is kept of this one, whatever is written of it
+  pub keeps : List (ℕ × X) → ℕ × X → Type 0
+  -- at the end of the input, behind all these items: lines, one after another
+  pub at_end : List (ℕ × X) → List ItemText → Type 0
   -- last, on a fault
   pub last : F → List ℕ
 
--- this text is allowed, and no other
+-- nothing is kept of an item
+abbrev pub keeps_nothing : {X : Type 0} → List (ℕ × X) → ℕ × X → Type 0
+keeps_nothing before e = ⊥
+
+-- nothing is written at the end
+abbrev pub ends_silently : {X : Type 0} → List (ℕ × X) → List ItemText → Type 0
+ends_silently items lines = lines ≡ []
+
+-- this text is allowed, and no other; nothing at the end
 abbrev pub exactly : {X C F : Type 0} → TextTo X C F → Allowed X C F
-exactly t = record { first = t.first; of_item = λ before e written. t.of_item before e ≡ written; last = t.last }
+exactly t = record { first = t.first; of_item = λ before e written. t.of_item before e ≡ written; keeps = keeps_nothing; at_end = ends_silently; last = t.last }
 
 -- the same is allowed by both
 pub record Alike {X C F : Type 0} (a b : Allowed X C F) : Type 0 where
   pub first : a.first ≡ b.first
   pub there : (before : List (ℕ × X)) (e : ℕ × X) (written : Result (List ℕ × Bool) C) → a.of_item before e written → b.of_item before e written
   pub back : (before : List (ℕ × X)) (e : ℕ × X) (written : Result (List ℕ × Bool) C) → b.of_item before e written → a.of_item before e written
+  pub keeps : (before : List (ℕ × X)) (e : ℕ × X) → a.keeps before e → b.keeps before e
+  pub keeps_back : (before : List (ℕ × X)) (e : ℕ × X) → b.keeps before e → a.keeps before e
+  pub ends : (items : List (ℕ × X)) (lines : List ItemText) → a.at_end items lines → b.at_end items lines
+  pub ends_back : (items : List (ℕ × X)) (lines : List ItemText) → b.at_end items lines → a.at_end items lines
   pub last : (f : F) → a.last f ≡ b.last f
 
 -- what an engine writes of a list of items
 abbrev pub Text : Type 0 → Type 0 → Type 0
 Text X C = TextTo X C (ItemFault C)
-
--- what is written of one item: its text, and whether the item is a finding
-pub record ItemText : Type 0 where
-  pub text : List ℕ
-  pub is_finding : Bool
 
 -- What is written of each of these items, after those before it: a text that is allowed. None of them is refused.
 pub record AreAllowedTexts {X C F : Type 0} (t : Allowed X C F) (items : List (ℕ × X)) (texts : List ItemText) : Type 0 where

@@ -6,7 +6,7 @@ use Rattle.engine_core.specs.declared.style.Style.TheVariants.{Lines, Dated}
 use Rattle.object_core.specs.declared.counted.Form.{Form}
 use Rattle.object_core.specs.declared.counted.Form.TheVariants as forms
 use Rattle.engine_core.specs.Dated.{dated}
-use Rattle.engine_core.specs.EngineText.{Allowed, TextTo}
+use Rattle.engine_core.specs.EngineText.{Allowed, TextTo, ends_silently, keeps_nothing}
 
 -- what is written of an event after others, and whether it is a finding; no event is refused
 abbrev pub EventText : Type 0 → Type 0
@@ -45,7 +45,7 @@ fault_text line object = record { line = line; object = object }
 
 -- that over an input, the fault of which a last line tells
 abbrev pub over_allowed : {A C F : Type 0} → EventAllows A → (F → List ℕ) → Allowed (Event A) C F
-over_allowed allows last_line = record { first = []; of_item = λ before e written. AllowsStep allows before e written; last = last_line }
+over_allowed allows last_line = record { first = []; of_item = λ before e written. AllowsStep allows before e written; keeps = keeps_nothing; at_end = ends_silently; last = last_line }
 
 -- a text that is fixed over an input, the fault of which a last line tells
 abbrev pub over_events : {A C F : Type 0} → EventText A → (F → List ℕ) → TextTo (Event A) C F

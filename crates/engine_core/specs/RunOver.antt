@@ -1,5 +1,5 @@
 -- A run of an engine: the items of which it wrote, the answer that ended it, and what it left written.
-use Rattle.std.specs.Prelude.{◌≡◌, ◌⊎◌, ℕ, Bool, List, [], ◌++◌, Option, Some, None, Result, Ok, Err, if◌then◌else◌}
+use Rattle.std.specs.Prelude.{◌≡◌, ◌⊎◌, ◌||◌, ℕ, Bool, List, [], ◌++◌, take, slice_get, Option, Some, None, Result, Ok, Err, if◌then◌else◌}
 use Rattle.std.specs.Io.KnownBytes.{Appends}
 use Rattle.list_core.specs.declared.device.InputEnd.{InputEnd}
 use Rattle.list_core.specs.declared.device.InputEnd.TheVariants.{Open}
@@ -39,9 +39,15 @@ IsDue refused t before (Err None) text closing = ⊥
 abbrev pub HasText : {F : Type 0} → (List ℕ → Option F → Type 0) → Type 0
 HasText {F} Due = (text : List ℕ) (closing : Option F) → Due text closing → text ≡ [] → ⊥
 
--- memory is wanted by the answer itself, or for the text that it asks for
+-- something may be kept of the item of an answer, after these items
+abbrev pub KeepsOf : {X C F : Type 0} → Allowed X C F → List (ℕ × X) → AnswerOf X F → Type 0
+KeepsOf t before (Ok (Some e)) = t.keeps before e
+KeepsOf t before (Ok None) = ⊥
+KeepsOf t before (Err why) = ⊥
+
+-- memory is wanted by the answer itself, for what is kept of its item, or for the text that it asks for
 abbrev pub WantsFor : {X C F : Type 0} → (ℕ → C → F) → Allowed X C F → List (ℕ × X) → AnswerOf X F → Type 0
-WantsFor refused t before answer = (answer ≡ Err None) ⊎ HasText (IsDue refused t before answer)
+WantsFor refused t before answer = (answer ≡ Err None) ⊎ KeepsOf t before answer ⊎ HasText (IsDue refused t before answer)
 
 -- ---- how an answer ends a run
 
@@ -63,12 +69,15 @@ fault_by_halt (halt.Fault why) = Some why
 fault_by_halt halt.WriteFault = None
 fault_by_halt halt.Memory = None
 
--- the input has ended: one of the items was a finding or none was, and nothing more is written
-pub record EndsThere {X F : Type 0} (texts : List ItemText) (answer : AnswerOf X F) (ending : Ending) (fault : Option F) (held new : Option (List ℕ)) : Type 0 where
+-- the input has ended, and the lines at its end were written: one of the items or of the lines was a finding, or none was
+pub record EndsThere {X C F : Type 0} (t : Allowed X C F) (items : List (ℕ × X)) (texts : List ItemText) (answer : AnswerOf X F) (ending : Ending) (fault : Option F) (held new : Option (List ℕ)) : Type 0 where
   pub ended : answer ≡ Ok None
-  pub has_ending : ending ≡ (if has_finding texts then Findings else Done)
+  pub lines : List ItemText
+  pub may_end : t.at_end items lines
+  pub has_ending : ending ≡ (if has_finding texts || has_finding lines then Findings else Done)
   pub by_none : fault ≡ None
-  pub no_more : new ≡ held
+  pub written : Appends held new (joined_texts lines)
+  pub no_more : lines ≡ [] → new ≡ held
 
 -- or the run stops early: by a fault, which is handed out, because its writer failed, or for want of memory
 pub record HaltsThere {X C F : Type 0} (faults : Faults C F) (t : Allowed X C F) (items : List (ℕ × X)) (answer : AnswerOf X F) (ending : Ending) (fault : Option F) (held new : Option (List ℕ)) : Type 0 where
@@ -76,6 +85,24 @@ pub record HaltsThere {X C F : Type 0} (faults : Faults C F) (t : Allowed X C F)
   pub stops : Stops (WantsFor faults.refused t items answer) (IsDue faults.refused t items answer) halt held new
   pub has_ending : ending ≡ ending_by_halt faults.failed halt
   pub by : fault ≡ fault_by_halt halt
+
+-- a run stops at a line: the writer failed at a prefix of it, or memory was wanted for it, which is not empty
+abbrev pub StopsAtLine : List ℕ → Ending → Option (List ℕ) → Option (List ℕ) → Type 0
+StopsAtLine text ending old new = ((ending ≡ WriteFault) × AppendsPrefix old new text) ⊎ ((ending ≡ Memory) × (text ≡ [] → ⊥) × (new ≡ old))
+
+-- or it stops at a line at the end of the input, behind those before it
+pub record HaltsAtEnd {X C F : Type 0} (t : Allowed X C F) (items : List (ℕ × X)) (answer : AnswerOf X F) (ending : Ending) (fault : Option F) (held new : Option (List ℕ)) : Type 0 where
+  pub ended : answer ≡ Ok None
+  pub lines : List ItemText
+  pub may_end : t.at_end items lines
+  -- how many lines were written, and what the writer holds behind them
+  pub before : ℕ
+  pub mid : Option (List ℕ)
+  pub written : Appends held mid (joined_texts (take before lines))
+  pub line : ItemText
+  pub is_line : slice_get lines before ≡ Some line
+  pub stops : StopsAtLine line.text ending mid new
+  pub by_none : fault ≡ None
 
 -- ---- the run
 
@@ -89,7 +116,7 @@ pub record Run {X C F : Type 0} (IsReadSo : List (ℕ × X) → AnswerOf X F →
   pub written : Appends old held (t.first ++ joined_texts texts)
   pub answer : AnswerOf X F
   pub read : IsReadSo items answer
-  pub ends : EndsThere texts answer ending fault held new ⊎ HaltsThere faults t items answer ending fault held new
+  pub ends : EndsThere t items texts answer ending fault held new ⊎ HaltsThere faults t items answer ending fault held new ⊎ HaltsAtEnd t items answer ending fault held new
 
 -- a run that could not write its first text: the writer failed at a prefix of it, and what it reads is untouched
 pub record FailsBefore {X C F : Type 0} (Untouched : Type 0) (t : Allowed X C F) (ending : Ending) (fault : Option F) (old new : Option (List ℕ)) : Type 0 where

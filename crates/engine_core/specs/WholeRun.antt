@@ -1,5 +1,5 @@
 -- A whole text that may be written of what an input says, and what a run leaves of one.
-use Rattle.std.specs.Prelude.{◌≡◌, ◌⊎◌, ℕ, Bool, true, false, List, [], ◌∷◌, ◌++◌, Option, None, Some, Result, Err}
+use Rattle.std.specs.Prelude.{◌≡◌, ◌⊎◌, ◌||◌, ℕ, Bool, true, false, List, [], ◌∷◌, ◌++◌, Option, None, Some, Result, Err}
 use Rattle.std.specs.Io.KnownBytes.{Appends}
 use Rattle.list_core.specs.declared.device.InputEnd.{InputEnd}
 use Rattle.list_core.specs.Device.{AppendsPrefix}
@@ -15,11 +15,11 @@ use Rattle.engine_core.specs.RunOver.{Leaves, LeavesSo}
 
 -- ---- texts
 
--- what is written last, by how an input stops
-abbrev pub stop_text : {X C F : Type 0} → Allowed X C F → Stop F → List ℕ
-stop_text t finished = []
-stop_text t unfinished = []
-stop_text t (faulty f) = t.last f
+-- what is written last behind these items, by how an input stops, and whether it has a finding: the lines at its end, or the text of its fault
+abbrev pub StopsWith : {X C F : Type 0} → Allowed X C F → List (ℕ × X) → Stop F → List ℕ × Bool → Type 0
+StopsWith t items finished last = (lines : List ItemText) × t.at_end items lines × (last ≡ (joined_texts lines, has_finding lines))
+StopsWith t items unfinished last = last ≡ ([], false)
+StopsWith t items (faulty f) last = last ≡ (t.last f, false)
 
 -- the next item is refused after these items, which is a fault of the input
 pub record RefusesItem {X C F : Type 0} (refused : ℕ → C → F) (t : Allowed X C F) (items : List (ℕ × X)) (onward : Numbered X F) (why : F) : Type 0 where
@@ -34,7 +34,7 @@ pub record RefusesItem {X C F : Type 0} (refused : ℕ → C → F) (t : Allowed
 abbrev pub StopsBehind : {X C F : Type 0} → (ℕ → C → F) → Allowed X C F → List (ℕ × X) → Numbered X F → Stop F → Type 0
 StopsBehind {F = F} refused t items onward stop = (onward ≡ stops stop) ⊎ ((why : F) × RefusesItem refused t items onward why × (stop ≡ faulty why))
 
--- A whole text of what an input says: what stands first, a text that is allowed for each item, and the last one where it stops by a fault. Something is found in it or nothing is.
+-- A whole text of what an input says: what stands first, a text that is allowed for each item, and what is last, by how it stops. Something is found in it or nothing is.
 pub record IsWholeText {X C F : Type 0} (refused : ℕ → C → F) (t : Allowed X C F) (said : Numbered X F) (text : List ℕ) (found : Bool) (stop : Stop F) : Type 0 where
   pub items : List (ℕ × X)
   pub texts : List ItemText
@@ -43,12 +43,14 @@ pub record IsWholeText {X C F : Type 0} (refused : ℕ → C → F) (t : Allowed
   pub onward : Numbered X F
   pub says : said ≡ put_items items onward
   pub stops_so : StopsBehind refused t items onward stop
-  pub is_text : text ≡ t.first ++ (joined_texts texts ++ stop_text t stop)
-  pub finds : has_finding texts ≡ found
+  pub last : List ℕ × Bool
+  pub stops_with : StopsWith t items stop last
+  pub is_text : text ≡ t.first ++ (joined_texts texts ++ last.0)
+  pub finds : (has_finding texts || last.1) ≡ found
 
 -- what may be written next, after these items: a text of the first of those that follow, or the last one
 abbrev pub IsTextOnward : {X C F : Type 0} → (ℕ → C → F) → Allowed X C F → List (ℕ × X) → List (ℕ × X) → Stop F → List ℕ → Type 0
-IsTextOnward refused t before [] stop text = text ≡ stop_text t stop
+IsTextOnward refused t before [] stop text = (found : Bool) × StopsWith t before stop (text, found)
 IsTextOnward {C = C} refused t before (e ∷ es) stop text = (written : Result (List ℕ × Bool) C) × t.of_item before e written × (text ≡ step_text_to refused t e.0 written)
 
 -- A front of a text of what an input says: what stands first, a text that is allowed for each of the first items, and nothing more or one that may be written next.
@@ -62,9 +64,10 @@ pub record IsFrontText {X C F : Type 0} (refused : ℕ → C → F) (t : Allowed
   pub is_next : (next ≡ []) ⊎ IsTextOnward refused t items onward.items onward.stop next
   pub is_text : text ≡ (t.first ++ joined_texts texts) ++ next
 
--- of each item something may be written, whatever items stand before it
-abbrev pub AllowsEach : {X C F : Type 0} → Allowed X C F → Type 0
-AllowsEach {X = X} {C = C} t = (before : List (ℕ × X)) (e : ℕ × X) → (written : Result (List ℕ × Bool) C) × t.of_item before e written
+-- of each item something may be written, whatever items stand before it, and behind all of them there may be an end
+pub record AllowsEach {X C F : Type 0} (t : Allowed X C F) : Type 0 where
+  pub of_item : (before : List (ℕ × X)) (e : ℕ × X) → (written : Result (List ℕ × Bool) C) × t.of_item before e written
+  pub at_end : (items : List (ℕ × X)) → (lines : List ItemText) × t.at_end items lines
 
 -- a whole text that begins with this front
 pub record GoesOn {X C F : Type 0} (refused : ℕ → C → F) (t : Allowed X C F) (said : Numbered X F) (front : List ℕ) : Type 0 where

@@ -149,6 +149,10 @@ impl<A: Allocator, F: InputFault + LastLine + LastObject, S: HasStyle, E: EventE
         }
     }
 
+    fn put_end(&self, _line: &mut Vec<u8, A>, _at: u128) -> Result<Option<bool>, AllocError> {
+        Ok(None)
+    }
+
     fn put_last(&self, line: &mut Vec<u8, A>, fault: &F) -> Result<(), AllocError> {
         put_fault_in(self.style.style(), line, fault)
     }

@@ -1,16 +1,16 @@
 //! The run of an engine over a reader of items: an item is asked for once the text of the item before
 //! stands written.
-ghost use Rattle.std.specs.Prelude.{◌≡◌, ◌<◌, ◌++◌, ℕ, Bool, List, [], Some, None, Ok, false, IsOk, OnErr, OnOk, length, take, if◌then◌else◌};
+ghost use Rattle.std.specs.Prelude.{◌≡◌, ◌<◌, ◌^◌, ◌⊎◌, ◌++◌, ℕ, Bool, List, [], Some, None, Ok, false, IfOk, IfSome, IsOk, OnErr, OnOk, length, take, if◌then◌else◌};
 ghost use Rattle.list_core.specs.declared.device.InputEnd.{InputEnd};
 ghost use Rattle.list_core.specs.Device.{GivesOctets};
 ghost use Rattle.list_core.specs.ItemReader.{item_state};
 ghost use Rattle.list_core.specs.ReadItems.{AnswerOf};
 ghost use Rattle.engine_core.specs.Ending.{ending_by_fault, is_write_fault};
-ghost use Rattle.engine_core.specs.EngineText.{Alike, Allowed, Text, exactly};
+ghost use Rattle.engine_core.specs.EngineText.{Alike, Allowed, ItemText, Text, exactly, has_finding};
 ghost use Rattle.engine_core.specs.Input.{reader_of};
 ghost use Rattle.engine_core.specs.Run.{LeavesRefused, Writes, list_input};
-ghost use Rattle.engine_core.specs.RunOver.{Leaves, RunsOver, Stops, ending_by_halt, fault_by_halt, stopped_at};
-ghost use Rattle.engine_core.specs.computed.EngineStep.{StepWrites, Takes, is_failed_write, stops_by};
+ghost use Rattle.engine_core.specs.RunOver.{EndsThere, HaltsAtEnd, Leaves, RunsOver, Stops, ending_by_halt, fault_by_halt, stopped_at};
+ghost use Rattle.engine_core.specs.computed.EngineStep.{LineWrites, PutsLine, StepWrites, Takes, is_failed_write, stops_by};
 
 use crate::ending::Ending;
 use crate::stopped::{Halt, Stopped};
@@ -19,7 +19,7 @@ use list_core::{
 };
 use std::alloc::{AllocError, Allocator};
 
-/// What an engine writes for an item, and last on a fault of its input. A value stands after some items.
+/// What an engine writes for an item, and last at the end of its input or on a fault of it. A value stands after some items.
 pub trait Engine<A: Allocator, F: InputFault> {
     /// What the input gives.
     type Item: Drop;
@@ -31,8 +31,8 @@ pub trait Engine<A: Allocator, F: InputFault> {
     ghost stands: { Self → List (ℕ × Self.Item) → Type 0 };
 
     /// Appends the text of the next item, and answers whether the item is a finding; or why it is
-    /// refused. Memory is wanted for a text alone: an item that writes nothing asks for none. Where it is
-    /// refused, the line's earlier text remains. An item that is used up may be left as spare.
+    /// refused. Memory is wanted for a text, and for what is kept, alone: an item that writes and keeps nothing asks for none.
+    /// Where it is refused, the line's earlier text remains. An item that is used up may be left as spare.
     fn put_item(
         &mut self,
         line: &mut Vec<u8, A>,
@@ -45,6 +45,13 @@ pub trait Engine<A: Allocator, F: InputFault> {
             Takes F.refused (allows self.old) (stands self.new) before (number, item) result line.old.items line.new.items }
         ensures kept { OnErr result (take (length line.old.items) line.new.items ≡ line.old.items) };
 
+    /// Appends the line at the end of the input that stands at a position, and answers whether it is a finding; or nothing, where
+    /// there is none.
+    fn put_end(&self, line: &mut Vec<u8, A>, at: u128) -> Result<Option<bool>, AllocError>
+        ensures ends { (items : List (ℕ × Self.Item)) → stands self.now items → (lines : List ItemText) × (allows self.now).at_end items lines }
+        ensures line { (items : List (ℕ × Self.Item)) → stands self.now items → (lines : List ItemText) → (allows self.now).at_end items lines → PutsLine lines at result line.old.items line.new.items }
+        ensures few { IfOk result (λ o. IfSome o (λ _. at < 2 ^ 66)) };
+
     /// Appends the last text on a fault. Where memory is refused, the line's earlier text remains.
     fn put_last(&self, line: &mut Vec<u8, A>, fault: &F) -> Result<(), AllocError>
         ensures text { OnOk result (line.new.items ≡ line.old.items ++ (allows self.now).last fault.now) }
@@ -52,7 +59,7 @@ pub trait Engine<A: Allocator, F: InputFault> {
         ensures quiet { (allows self.now).last fault.now ≡ [] → IsOk result };
 }
 
-/// How a run goes on after an answer of the reader.
+/// How a run goes on after an answer of the reader, or at its end.
 #[derive(Drop)]
 pub enum Next<F> {
     /// An item's text was written; the item is a finding or not.
@@ -178,9 +185,64 @@ pub fn ended_by<F: InputFault>(halt: Halt<F>) -> (Ending, Option<F>)
     }
 }
 
-// Writes the first text, then the text of each item, and the last text where the input has a fault or an item is refused; and
-// answers how that ended. The reader of the items is lent: that of a list holds 8,192 octets, so each move of it needs as much of the stack.
-fn run_on<
+// Writes the line at the end of the input that stands at a position.
+fn answer_line<A: Allocator, F: InputFault, E: Engine<A, F>, W: Sink>(
+    engine: &E,
+    line: &mut Vec<u8, A>,
+    at: u128,
+    writer: &mut W,
+) -> Next<F>
+    requires { W.failed writer.old ≡ false }
+    ensures ends { (items : List (ℕ × E.Item)) → E.stands engine.now items → (lines : List ItemText) × (E.allows engine.now).at_end items lines }
+    ensures line { (items : List (ℕ × E.Item)) → E.stands engine.now items → (lines : List ItemText) → (E.allows engine.now).at_end items lines → LineWrites lines at result (W.contents writer.old) (W.contents writer.new) }
+    ensures few { (found : Bool) → result ≡ Next.Wrote found → at < 2 ^ 66 }
+    ensures fails { W.failed writer.new ≡ stops_by is_failed_write result }
+{
+    line.clear();
+    let found = match engine.put_end(line, at) {
+        Ok(Some(found)) => found,
+        Ok(None) => return Next::Ended,
+        Err(_) => return Next::Stop(Halt::Memory),
+    };
+    match put_all(writer, line.as_slice()) {
+        Ok(()) => Next::Wrote(found),
+        Err(_) => Next::Stop(Halt::WriteFault),
+    }
+}
+
+// Writes the lines at the end of the input, one after another, where something was found before or nothing was; and answers how that ended.
+// Never inlined, so that a run keeps its registers.
+#[inline(never)]
+fn close<A: Allocator, F: InputFault, E: Engine<A, F>, W: Sink>(
+    engine: &E,
+    line: &mut Vec<u8, A>,
+    found: bool,
+    writer: &mut W,
+) -> (Ending, Option<F>)
+    requires works { W.failed writer.old ≡ false }
+    ensures closes { (items : List (ℕ × E.Item)) → E.stands engine.now items → (texts : List ItemText) → has_finding texts ≡ found →
+        EndsThere (E.allows engine.now) items texts (Ok None) result.0 result.1 (W.contents writer.old) (W.contents writer.new)
+        ⊎ HaltsAtEnd (E.allows engine.now) items (Ok None) result.0 result.1 (W.contents writer.old) (W.contents writer.new) }
+    ensures fault { W.failed writer.new ≡ is_write_fault result.0 }
+{
+    let mut has_found = found;
+    let mut at = 0;
+    'lines: loop {
+        match answer_line(engine, line, at, writer) {
+            Next::Wrote(is_finding) => {
+                has_found = has_found || is_finding;
+                at += 1;
+            }
+            Next::Ended => return (ending_where(has_found), None),
+            Next::Stop(halt) => return ended_by(halt),
+        }
+    }
+}
+
+/// Writes the first text, then the text of each item, and the last text where the input has a fault or an item is refused, or the
+/// lines at its end; and answers how that ended. The reader of the items is lent: that of a list holds 8,192 octets, so each move of
+/// it needs as much of the stack.
+pub fn run_on<
     A: Allocator + Copy,
     F: InputFault + Drop,
     I: ReadItems<A, Fault = F>,
@@ -203,14 +265,14 @@ fn run_on<
     'answers: loop {
         match answer_next(alloc, engine, &mut line, items, &mut spare, writer) {
             Next::Wrote(is_finding) => found |= is_finding,
-            Next::Ended => return (ending_where(found), None),
+            Next::Ended => return close(engine, &mut line, found, writer),
             Next::Stop(halt) => return ended_by(halt),
         }
     }
 }
 
 /// Writes the first text, then the text of each item of a reader in its turn, and the last text where
-/// the input has a fault or an item is refused. Hands out how that ended, the fault by which it did, and the reader.
+/// the input has a fault or an item is refused, or the lines at its end. Hands out how that ended, the fault by which it did, and the reader.
 pub fn run_over<
     A: Allocator + Copy,
     F: InputFault + Drop,

@@ -1,13 +1,10 @@
-pub mod Judged
 pub mod Kept
 pub mod Tracks
 pub mod Tellings
 pub mod Closings
 pub mod Passages
-pub mod Ends
 pub mod Rows
 pub mod WorkedLines
-pub mod LossRuns
 pub mod KeyOrder
 pub mod RollLemmas
 pub mod TrackedKeys
@@ -16,3 +13,5 @@ pub mod TimesBack
 pub mod LossLaws
 pub mod LossWanted
 pub mod LossesOnce
+pub mod LossSteps
+pub mod LossesTold

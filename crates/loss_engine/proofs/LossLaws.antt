@@ -183,11 +183,11 @@ closing_is periods form seen k st =
       parts = refl;
     }
 
-numbers_away : (n : ℕ) (ws : List ItemText) → map (λ (w : ℕ × ItemText). w.1) (numbered_all n ws) ≡ ws
+pub numbers_away : (n : ℕ) (ws : List ItemText) → map (λ (w : ℕ × ItemText). w.1) (numbered_all n ws) ≡ ws
 numbers_away n [] = refl
 numbers_away n (w ∷ ws) = ap (λ l. w ∷ l) (numbers_away n ws)
 
-closes_events : {A : Type 0} (periods : List Period) (style : Style) (items : List (ℕ × Event A)) (k : Kept) → Follows periods items k → ClosesEvents periods style items (closings style k)
+pub closes_events : {A : Type 0} (periods : List Period) (style : Style) (items : List (ℕ × Event A)) (k : Kept) → Follows periods items k → ClosesEvents periods style items (closings style k)
 closes_events periods style items k f =
     (closing_by (form_of style) k, subst (λ n. IsClosing periods (form_of style) (sights_in items) n (closing_by (form_of style) k)) f.moment (closing_is periods (form_of style) (sights_in items) k f.stands), refl)
 

@@ -32,7 +32,7 @@ any_found test (x ∷ xs) h =
     ]
 
 module _ {A : Type 0} (periods : List Period) (in_range : ArePeriods periods) where
-  shown_new : (before : List (ℕ × Event A)) (k : Kept) (e : ℕ × Event A) → Follows periods before k → shows_new k.tracked (sights_by k e.1) ≡ true → ShowsNew before e
+  pub shown_new : (before : List (ℕ × Event A)) (k : Kept) (e : ℕ × Event A) → Follows periods before k → shows_new k.tracked (sights_by k e.1) ≡ true → ShowsNew before e
   shown_new before k e f h =
       let found = any_found (λ (s : Sight). not (is_some (known_of k.tracked s.key))) (sights_by k e.1) h in
       let s : Sight = found.1 in
@@ -43,31 +43,5 @@ module _ {A : Type 0} (periods : List Period) (in_range : ArePeriods periods) wh
         is_new = ap (list_any (λ j. same_key j s.key)) (sym f.stands.keys) ∙ (sym (known_is k.tracked s.key) ∙ not-true (is_some (known_of k.tracked s.key)) found.3);
       }
 
-  are_pieces : (style : Style) (events : List (ℕ × Event A)) → ArePiecesOf periods style events (pieces_by periods style kept_none events)
+  pub are_pieces : (style : Style) (events : List (ℕ × Event A)) → ArePiecesOf periods style events (pieces_by periods style kept_none events)
   are_pieces style events = record { sizes = pieces_sizes periods in_range style events kept_none; each = λ i e w p q. pieces_tell_all periods in_range style events i e w p q }
-
--- ---- the events of what is written are the first that are said
-
-front_all : {X : Type 0} (xs ys : List X) → take (length xs) (xs ++ ys) ≡ xs
-front_all [] ys = refl
-front_all (x ∷ xs) ys = ap (λ l. x ∷ l) (front_all xs ys)
-
-module _ {A F : Type 0} (periods : List Period) (in_range : ArePeriods periods) (style : Style) (Keeps : List (ℕ × Event A) → Type 0) (said : Numbered (Event A) F) (pieces : Numbered ItemText F) where
-  new_wanted : (written : List (ℕ × ItemText)) (events : List (ℕ × Event A)) (next : ℕ × Event A) (others : Numbered (Event A) F) → written ≡ pieces_by periods style kept_none events → said ≡ put_items events (put_item next others) →
-      ShowsNew events next → LossWants periods style Keeps said pieces written
-  new_wanted written events next others by says new =
-      let size : length written ≡ length events = ap length by ∙ pieces_sizes periods in_range style events kept_none in
-      let items : said.items ≡ events ++ next ∷ others.items = ap (λ (l : Numbered (Event A) F). l.items) says in
-      let front : take (length written) said.items ≡ events = ap (λ n. take n said.items) size ∙ (ap (take (length events)) items ∙ front_all events (next ∷ others.items)) in
-      for_new next (ap (slice_get said.items) size ∙ (ap (λ l. slice_get l (length events)) items ∙ get_middle events next others.items))
-      (subst (λ es. ArePiecesOf periods style es written) (sym front) (subst (λ l. ArePiecesOf periods style events l) (sym by) (are_pieces periods in_range style events)))
-      (subst (λ es. ShowsNew es next) (sym front) new)
-
-  pub loss_wants : (written : List (ℕ × ItemText)) → Wanting periods style kept_none Keeps said pieces written → LossWants periods style Keeps said pieces written
-  loss_wants written (by_input events others by says keeps) =
-      let size : length written ≡ length events = ap length by ∙ pieces_sizes periods in_range style events kept_none in
-      let front : take (length written) said.items ≡ events = ap (λ n. take n said.items) size ∙ (ap (λ (l : Numbered (Event A) F). take (length events) l.items) says ∙ front_all events others.items) in
-      for_input (subst (λ es. ArePiecesOf periods style es written) (sym front) (subst (λ l. ArePiecesOf periods style events l) (sym by) (are_pieces periods in_range style events))) (subst Keeps (sym front) keeps)
-  loss_wants written (by_new events next others by says new) =
-      new_wanted written events next others by says (shown_new periods in_range events (keep_all periods kept_none events) next (follows_all periods in_range events) new)
-  loss_wants written (by_text next others says some) = for_text next others says some

@@ -31,7 +31,7 @@ use Rattle.loss_engine.specs.Sights.{Key, Shown, Sight, frame, sample, sender, s
 use Rattle.loss_engine.proofs.TimesBack.{back_once}
 
 -- two lists of a length are one where their items at each position are
-same_items : {X : Type 0} (xs ys : List X) → length xs ≡ length ys → ((i : ℕ) (x y : X) → slice_get xs i ≡ Some x → slice_get ys i ≡ Some y → x ≡ y) → xs ≡ ys
+pub same_items : {X : Type 0} (xs ys : List X) → length xs ≡ length ys → ((i : ℕ) (x y : X) → slice_get xs i ≡ Some x → slice_get ys i ≡ Some y → x ≡ y) → xs ≡ ys
 same_items [] [] sizes h = refl
 same_items [] (y ∷ ys) sizes h = absurd (omega arith)
 same_items (x ∷ xs) [] sizes h = absurd (omega arith)
@@ -52,7 +52,7 @@ shown_once (Some period) earlier key moment (sample count synch) fs gs u v =
     let s : Sample = record { count = count; moment = moment } in
     u.2 ∙ (ap (λ c. came_told period count c ++ synch_told (last_of (synchs_of key earlier)) synch) (sample_last_once period (samples_of key earlier) s u.0 v.0 u.1 v.1) ∙ sym v.2)
 
-event_once : {A : Type 0} (periods : List Period) (style : Style) (before : List (ℕ × Event A)) (e : ℕ × Event A) (w v : ItemText) → TellsEvent periods style before e w → TellsEvent periods style before e v → w ≡ v
+pub event_once : {A : Type 0} (periods : List Period) (style : Style) (before : List (ℕ × Event A)) (e : ℕ × Event A) (w v : ItemText) → TellsEvent periods style before e w → TellsEvent periods style before e v → w ≡ v
 event_once periods style before e w v p q =
     let same : p.findings ≡ q.findings = same_items p.findings q.findings (p.sizes ∙ sym q.sizes) (λ i fs gs x y.
     let s = there p.findings (sights_at before e) p.sizes i fs x in
@@ -98,7 +98,7 @@ closing_once periods form seen end xs ys p q =
     (key_once (period_for periods key.0) form seen end key.0 t.0 s r.0 z (p.each i key.0 t.0 s key.1 t.1 x) (q.each i key.0 r.0 z key.1 r.1 y)).1) in
     p.parts ∙ (ap₂ (λ a b. a ++ b) silents totals ∙ sym q.parts)
 
-closes_once : {A F : Type 0} (periods : List Period) (style : Style) (stop : Stop F) (items : List (ℕ × Event A)) (xs ys : List ItemText) → ClosesBy periods style stop items xs → ClosesBy periods style stop items ys → xs ≡ ys
+pub closes_once : {A F : Type 0} (periods : List Period) (style : Style) (stop : Stop F) (items : List (ℕ × Event A)) (xs ys : List ItemText) → ClosesBy periods style stop items xs → ClosesBy periods style stop items ys → xs ≡ ys
 closes_once periods style finished items xs ys p q =
     p.2 ∙ (ap (map (closing_in style)) (closing_once periods (form_of style) (sights_in items) (greatest_moment items) p.0 q.0 p.1 q.1) ∙ sym q.2)
 closes_once periods style unfinished items xs ys p q = p ∙ sym q

@@ -1,6 +1,6 @@
 -- What `losses` writes: of each event that time goes back, where it does, and what its frame tells; and at the end of the input what
 -- has not come back and what came in all.
-use Rattle.std.specs.Prelude.{◌≡◌, ℕ, ◌+◌, ◌-◌, ◌||◌, nat_le, is_some, Bool, true, false, List, [], ◌∷◌, ◌++◌, length, map, take, slice_get, codes, Option, Some, None, Ok, if◌then◌else◌}
+use Rattle.std.specs.Prelude.{◌≡◌, ℕ, ◌+◌, ◌-◌, ◌||◌, nat_le, is_some, Bool, true, false, List, [], ◌∷◌, ◌++◌, length, map, take, slice_get, codes, Option, Some, None, if◌then◌else◌}
 use Rattle.std.specs.List.{flat_map, list_any}
 use Rattle.list_core.specs.declared.event.Event.{Event}
 use Rattle.list_core.specs.Items.{Numbered}
@@ -10,8 +10,8 @@ use Rattle.object_core.specs.declared.counted.Form.TheVariants as forms
 use Rattle.engine_core.specs.declared.style.Style.{Style}
 use Rattle.engine_core.specs.declared.style.Style.TheVariants.{Lines, Dated}
 use Rattle.engine_core.specs.Dated.{dated}
-use Rattle.engine_core.specs.EngineText.{ItemText, TextTo}
-use Rattle.engine_core.specs.EventsText.{FaultText, line_in}
+use Rattle.engine_core.specs.EngineText.{Allowed, ItemText}
+use Rattle.engine_core.specs.EventsText.{AllowsStep, FaultText, line_in}
 use Rattle.loss_core.specs.declared.sender_tally.SenderTally.{SenderTally}
 use Rattle.loss_core.specs.declared.sender_tally.SenderTotals.{SenderTotals}
 use Rattle.loss_core.specs.declared.stream.Came.{Came}
@@ -26,7 +26,7 @@ use Rattle.loss_core.specs.Findings.{has_loss}
 use Rattle.loss_engine.specs.Findings.{TellsSight}
 use Rattle.loss_engine.specs.LossLine.{end_silent_line, finding_line, samples_line, sender_total_line, stream_total_line, time_back_line}
 use Rattle.loss_engine.specs.LossObject.{end_silent_object, finding_object, samples_object, sender_total_object, stream_total_object, time_back_object}
-use Rattle.loss_engine.specs.Sights.{Key, Sight, sender, stream, frames_of, greatest_moment, keys_in, period_for, samples_of, sights_in, sights_of}
+use Rattle.loss_engine.specs.Sights.{Key, Sight, sender, stream, frames_of, greatest_moment, keys_in, period_for, same_key, samples_of, sights_in, sights_of}
 use Rattle.loss_engine.specs.TimeBack.{TellsBack}
 
 -- ---- events
@@ -181,6 +181,19 @@ pub record Manner (F : Type 0) : Type 0 where
   pub style : Style
   pub last : FaultText F
 
--- each piece is written as it is, and the fault of the input by its line in a style
-abbrev pub written_pieces : {C F : Type 0} → Manner F → TextTo ItemText C F
-written_pieces how = record { first = []; of_item = λ before e. Ok (e.1.text, e.1.is_finding); last = λ f. line_in how.style (how.last.line f) (how.last.object f) }
+-- an event shows a sender or a stream that none of those before shows
+pub record ShowsNew {A : Type 0} (before : List (ℕ × Event A)) (e : ℕ × Event A) : Type 0 where
+  pub at : ℕ
+  pub sight : Sight
+  pub is : slice_get (sights_at before e) at ≡ Some sight
+  pub is_new : list_any (λ k. same_key k sight.key) (keys_in (sights_in before)) ≡ false
+
+-- What is written of the events of an input, and at its end; memory is wanted for a sender or a stream that is new, too. The fault of the input is told by its line in the style.
+abbrev pub losses_text : {A C F : Type 0} → Manner F → Allowed (Event A) C F
+losses_text how = record {
+  first = [];
+  of_item = λ before e written. AllowsStep (λ earlier x w. TellsEvent how.periods how.style earlier x (record { text = w.0; is_finding = w.1 })) before e written;
+  keeps = ShowsNew;
+  at_end = λ items lines. ClosesEvents how.periods how.style items lines;
+  last = λ f. line_in how.style (how.last.line f) (how.last.object f);
+}

@@ -1,30 +1,27 @@
 -- A run of `losses` in the words of the definitions: what it writes, and for what it may want memory.
-use Rattle.std.specs.Prelude.{◌≡◌, ◌≤◌, ◌⊎◌, ℕ, false, List, [], Option, Some, None, Ok, Err, length, take, slice_get}
-use Rattle.std.specs.List.{list_any}
+use Rattle.std.specs.Prelude.{◌≡◌, ◌≤◌, ◌⊎◌, ℕ, List, [], Option, Some, None, Ok, Err, length, take, slice_get}
 use Rattle.list_core.specs.declared.device.InputEnd.{InputEnd}
+use Rattle.list_core.specs.declared.device.InputEnd.TheVariants.{Open}
 use Rattle.list_core.specs.declared.event.Event.{Event}
 use Rattle.list_core.specs.Items.{Numbered, put_item, put_items}
 use Rattle.list_core.specs.ReadItems.{AnswerOf}
 use Rattle.engine_core.specs.declared.ending.Ending.{Ending}
 use Rattle.engine_core.specs.declared.style.Style.{Style}
-use Rattle.engine_core.specs.EngineText.{ItemText, exactly}
+use Rattle.engine_core.specs.EngineText.{ItemText, TextTo, exactly}
+use Rattle.engine_core.specs.EventsText.{line_in}
 use Rattle.engine_core.specs.Input.{Input, IsRead, TellsNext}
-use Rattle.engine_core.specs.RunOver.{Run}
-use Rattle.loss_core.specs.Periods.{Period}
-use Rattle.loss_engine.specs.LossText.{AreLosses, Manner, TellsEvent, sights_at, written_pieces}
-use Rattle.loss_engine.specs.Sights.{Sight, keys_in, same_key, sights_in}
+use Rattle.engine_core.specs.RunOver.{FailsBefore, IsUntouched, Leaves, Run}
+use Rattle.loss_core.specs.Periods.{ArePeriods, Period}
+use Rattle.loss_engine.specs.LossText.{AreLosses, Manner, ShowsNew, TellsEvent, losses_text}
+
+-- each piece is written as it is, and the fault of the input by its line in a style
+abbrev pub written_pieces : {C F : Type 0} → Manner F → TextTo ItemText C F
+written_pieces how = record { first = []; of_item = λ before e. Ok (e.1.text, e.1.is_finding); last = λ f. line_in how.style (how.last.line f) (how.last.object f) }
 
 -- the pieces of events: one for each, with its number
 pub record ArePiecesOf {A : Type 0} (periods : List Period) (style : Style) (events : List (ℕ × Event A)) (pieces : List (ℕ × ItemText)) : Type 0 where
   pub sizes : length pieces ≡ length events
   pub each : (i : ℕ) (e : ℕ × Event A) (w : ℕ × ItemText) → slice_get events i ≡ Some e → slice_get pieces i ≡ Some w → (w.0 ≡ e.0) × TellsEvent periods style (take i events) e w.1
-
--- an event shows a sender or a stream that none of those before shows
-pub record ShowsNew {A : Type 0} (before : List (ℕ × Event A)) (e : ℕ × Event A) : Type 0 where
-  pub at : ℕ
-  pub sight : Sight
-  pub is : slice_get (sights_at before e) at ≡ Some sight
-  pub is_new : list_any (λ k. same_key k sight.key) (keys_in (sights_in before)) ≡ false
 
 -- Behind these pieces memory is wanted: by the input, to keep something behind their events; for a sender or a stream of the next event that is new; or for the text of the next piece.
 pub data LossWants {A F : Type 0} (periods : List Period) (style : Style) (Keeps : List (ℕ × Event A) → Type 0) (said : Numbered (Event A) F) (pieces : Numbered ItemText F) (written : List (ℕ × ItemText)) : Type 0 where
@@ -58,3 +55,9 @@ pub record WritesLosses {A C F : Type 0} (how : Manner F) (input : Input (Event 
   pub pieces : Numbered ItemText F
   pub are : AreLosses how.periods how.style (input.says z read) pieces
   pub run : Run (ArePiecesRead input z read pieces (LossWants how.periods how.style (KeepsBehind input z read) (input.says z read) pieces)) input.faults (exactly (written_pieces how)) ending fault old new
+
+-- what a run leaves that tells losses in a manner, it writes piece by piece, where it began
+abbrev pub LossesAreTold : Type 0 → Type 0 → Type 0 → Type 0
+LossesAreTold A C F =
+    (how : Manner F) (input : Input (Event A) C F) (ending : Ending) (fault : Option F) (z : InputEnd) (read : List ℕ) (old new : Option (List ℕ)) → ArePeriods how.periods → Leaves input (losses_text how) ending fault z read old new →
+    FailsBefore (IsUntouched Open z read) (exactly (written_pieces {C = C} how)) ending fault old new ⊎ WritesLosses how input ending fault z read old new

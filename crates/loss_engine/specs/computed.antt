@@ -2,10 +2,7 @@ pub mod Tracking
 pub mod Entries
 pub mod Held
 pub mod Telling
-pub mod Judging
 pub mod Closing
-pub mod LossesOver
-pub mod Wanting
 pub mod NumberText
 pub mod KeyOrder
 pub mod Roll

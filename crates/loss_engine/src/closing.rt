@@ -1,9 +1,10 @@
 //! The lines at the end of the input.
 
-ghost use Rattle.std.specs.Prelude.{◌≡◌, ℕ, ◌+◌, ◌<◌, ◌^◌, [], IfOk, IfSome, OnErr, length};
+ghost use Rattle.std.specs.Prelude.{◌≡◌, ℕ, ◌<◌, ◌^◌, [], IfOk, IfSome, OnErr};
 ghost use Rattle.object_core.specs.declared.counted.Form.{Form};
 ghost use Rattle.text_core.specs.Pieces.{AppendsText};
-ghost use Rattle.loss_engine.specs.computed.Closing.{ClosingPut, ClosingWanted, closing_item, is_empty_closing};
+ghost use Rattle.engine_core.specs.computed.EngineStep.{PutsLine};
+ghost use Rattle.loss_engine.specs.computed.Closing.{closing_item, is_empty_closing};
 ghost use Rattle.loss_engine.specs.computed.Held.{kept_by};
 ghost use Rattle.loss_engine.specs.computed.Tracking.{closings};
 ghost use Rattle.loss_engine.specs.LossText.{closing_in, form_of};
@@ -93,10 +94,8 @@ pub fn put_closing<A: Allocator + Copy>(
     out: &mut Vec<u8, A>,
     at: u128,
 ) -> Result<Option<bool>, AllocError>
-    ensures put { IfOk result (λ o. ClosingPut (closings style (kept_by losses.now)) at out.old.items o out.new.items) }
-    ensures wants { OnErr result (ClosingWanted (closings style (kept_by losses.now)) at) }
-    ensures few { IfOk result (λ o. IfSome o (λ _. at < length (kept_by losses.now).tracked + length (kept_by losses.now).tracked)) }
-    ensures most { length (kept_by losses.now).tracked < 2 ^ 64 }
+    ensures line { PutsLine (closings style (kept_by losses.now)) at result out.old.items out.new.items }
+    ensures few { IfOk result (λ o. IfSome o (λ _. at < 2 ^ 66)) }
 {
     let Some(closing) = losses.closing_at(at) else {
         return Ok(None);

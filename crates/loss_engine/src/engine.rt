@@ -1,63 +1,113 @@
 //! `losses`: what is missing of each control block and stream, when, and how much.
-ghost use Rattle.std.specs.Prelude.{◌≡◌, ◌++◌, [], IsOk, OnErr, OnOk, false, length, take};
+ghost use Rattle.std.specs.Prelude.{◌≡◌, ◌++◌, [], IfOk, IsOk, OnErr, OnOk, false, length, take};
 ghost use Rattle.engine_core.specs.Ending.{is_write_fault};
-ghost use Rattle.engine_core.specs.EngineText.{exactly};
 ghost use Rattle.engine_core.specs.EventsText.{fault_text};
 ghost use Rattle.engine_core.specs.Input.{reader_of};
-ghost use Rattle.loss_engine.specs.LossText.{written_pieces};
+ghost use Rattle.engine_core.specs.RunOver.{RunsOver};
 ghost use Rattle.loss_core.specs.Periods.{ArePeriods};
-ghost use Rattle.loss_engine.specs.computed.LossesOver.{LossesOver};
+ghost use Rattle.loss_engine.specs.LossText.{losses_text};
+ghost use Rattle.loss_engine.specs.computed.Held.{kept_by, periods_by};
+ghost use Rattle.loss_engine.specs.computed.Telling.{PutsPiece, WantsPiece};
+ghost use Rattle.loss_engine.specs.computed.Tracking.{keep_all, kept_none};
+ghost use Rattle.loss_engine.proofs.LossSteps.{losses_end};
 
-use crate::losing::Losing;
-use crate::passage::Passage;
+use crate::closing::put_closing;
+use crate::losses::Losses;
+use crate::telling::put_event;
 use crate::unjudged::Unjudged;
-use engine_core::{Engine, Stopped, Style, put_fault_in, run_over};
+use engine_core::{Engine, Stopped, Style, put_dated, put_fault_in, run_on};
 use list_core::{Event, InputFault, ReadError, ReadItems, Sink};
 use loss_core::StreamPeriod;
-use object_core::LastObject;
+use object_core::{Form, Heading, LastObject};
 use std::alloc::{AllocError, Allocator};
 use text_core::LastLine;
 
-// Appends the text of a passage. Memory is wanted for a text alone.
-fn put_passage<A: Allocator>(line: &mut Vec<u8, A>, passage: &Passage<A>) -> Result<(), AllocError>
-    ensures text { OnOk result (line.new.items ≡ line.old.items ++ passage.now.text) }
-    ensures kept { OnErr result (take (length line.old.items) line.new.items ≡ line.old.items) }
-    ensures quiet { passage.now.text ≡ [] → IsOk result }
-{
-    let text = passage.text();
-    if text.is_empty() {
-        return Ok(());
-    }
-    line.extend_from_slice(text)
-}
-
-/// What is told, handed on as it is; and the fault of the input in this style.
+/// What `losses` writes of events in a style, and what is kept of them.
 #[derive(Drop)]
-struct Handing {
+struct Losing<A: Allocator> {
+    alloc: A,
+    losses: Losses<A>,
     style: Style,
+    // What is told of an event before its dates: its memory is used again for the next.
+    undated: Vec<u8, A>,
 }
 
-impl<A: Allocator, F: InputFault + LastLine + LastObject> Engine<A, F> for Handing {
-    type Item = Passage<A>;
+impl<A: Allocator + Copy> Losing<A> {
+    // Appends what the next event tells, in the style, and answers whether that is a finding.
+    #[inline(always)]
+    fn put_told(
+        &mut self,
+        line: &mut Vec<u8, A>,
+        number: u64,
+        event: &Event<A>,
+    ) -> Result<bool, AllocError>
+        ensures puts { IfOk result (λ found. PutsPiece (periods_by self.old.losses) self.old.style (kept_by self.old.losses) (number, event.now) line.old.items found line.new.items (kept_by self.new.losses)) }
+        ensures wants { OnErr result (WantsPiece (periods_by self.old.losses) self.old.style (kept_by self.old.losses) (number, event.now)) }
+        ensures kept { OnErr result (take (length line.old.items) line.new.items ≡ line.old.items) }
+        ensures periods { periods_by self.new.losses ≡ periods_by self.old.losses }
+        ensures style { self.new.style ≡ self.old.style }
+    {
+        let back = self.losses.pass(event.moment);
+        match self.style {
+            Style::Lines(form) => {
+                let heading = Heading {
+                    form,
+                    number,
+                    moment: event.moment,
+                };
+                put_event(
+                    self.alloc,
+                    &mut self.losses,
+                    line,
+                    heading,
+                    back,
+                    &event.kind,
+                )
+            }
+            Style::Dated => {
+                self.undated.clear();
+                let heading = Heading {
+                    form: Form::Text,
+                    number,
+                    moment: event.moment,
+                };
+                let undated = &mut self.undated;
+                let losses = &mut self.losses;
+                let found = put_event(self.alloc, losses, undated, heading, back, &event.kind)?;
+                put_dated(line, event.moment, self.undated.as_slice())?;
+                Ok(found)
+            }
+        }
+    }
+}
 
-    ghost allows = { λ s. exactly (written_pieces (record { periods = []; style = s.style; last = fault_text F.last_line F.last_object })) };
+impl<A: Allocator + Copy, F: InputFault + LastLine + LastObject> Engine<A, F> for Losing<A> {
+    type Item = Event<A>;
 
-    ghost stands = { λ _ _. Unit {0} };
+    ghost allows = { λ s. losses_text (record { periods = periods_by s.losses; style = s.style; last = fault_text F.last_line F.last_object }) };
 
+    ghost stands = { λ s before. kept_by s.losses ≡ keep_all (periods_by s.losses) kept_none before };
+
+    ghost ends = { λ s items stands. losses_end (periods_by s.losses) s.losses.are_periods s.style items };
+
+    #[inline(always)]
     fn put_item(
         &mut self,
         line: &mut Vec<u8, A>,
-        _number: u64,
-        passage: Passage<A>,
-        spare: &mut Option<Passage<A>>,
+        number: u64,
+        event: Event<A>,
+        spare: &mut Option<Event<A>>,
     ) -> Result<bool, ReadError<F::Refusal>> {
-        let put = put_passage(line, &passage);
-        let is_finding = passage.is_finding();
-        *spare = Some(passage);
+        let put = self.put_told(line, number, &event);
+        *spare = Some(event);
         match put {
-            Ok(()) => Ok(is_finding),
+            Ok(found) => Ok(found),
             Err(error) => Err(ReadError::Memory(error)),
         }
+    }
+
+    fn put_end(&self, line: &mut Vec<u8, A>, at: u128) -> Result<Option<bool>, AllocError> {
+        put_closing(&self.losses, self.style, line, at)
     }
 
     fn put_last(&self, line: &mut Vec<u8, A>, fault: &F) -> Result<(), AllocError> {
@@ -79,26 +129,27 @@ pub fn losses_over<
 >(
     alloc: A,
     style: Style,
-    events: I,
+    mut events: I,
     periods: Vec<StreamPeriod<A>, A>,
     unjudged: &mut Unjudged<A>,
     writer: &mut W,
 ) -> Stopped<I, F>
     requires works { W.failed writer.old ≡ false }
     requires periods { ArePeriods periods.items }
-    ensures text { LossesOver (record { periods = periods.items; style = style; last = fault_text F.last_line F.last_object }) (reader_of I.answers I.number F.refused F.failed) events result (W.contents writer.old) (W.contents writer.new) }
+    ensures text { RunsOver (reader_of I.answers I.number F.refused F.failed) (losses_text (record { periods = periods.items; style = style; last = fault_text F.last_line F.last_object })) events result (W.contents writer.old) (W.contents writer.new) }
     ensures fault { W.failed writer.new ≡ is_write_fault result.ending }
 {
-    let passages = Losing::new(alloc, periods, style, events);
-    let Stopped {
-        ending,
-        fault,
-        reader,
-    } = run_over(alloc, Handing { style }, b"", passages, writer);
-    reader.note_unjudged(alloc, unjudged);
+    let mut losing = Losing {
+        alloc,
+        losses: Losses::new(alloc, periods),
+        style,
+        undated: Vec::new(alloc),
+    };
+    let (ending, fault) = run_on(alloc, &mut losing, b"", &mut events, writer);
+    losing.losses.note_unjudged(alloc, unjudged);
     Stopped {
         ending,
         fault,
-        reader: reader.into_events(),
+        reader: events,
     }
 }

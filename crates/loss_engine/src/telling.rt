@@ -145,6 +145,7 @@ pub fn put_event<A: Allocator + Copy>(
     ensures tells { IfOk result (λ found. TellsAll heading back (periods_by losses.old) (kept_by losses.old) (sights_of (kept_by losses.old).moment kind.now) out.old.items found out.new.items (kept_by losses.new)) }
     ensures periods { periods_by losses.new ≡ periods_by losses.old }
     ensures wants { OnErr result (WantsAll heading back (periods_by losses.old) (kept_by losses.old) (sights_of (kept_by losses.old).moment kind.now)) }
+    ensures kept { take (length out.old.items) out.new.items ≡ out.old.items }
 {
     put_back(out, heading, back)?;
     let found = put_frame_of(alloc, losses, out, heading, kind)?;

@@ -1,5 +1,5 @@
 -- What a task over a reader of events leaves of the input that it reads.
-use Rattle.std.proofs.Common.{Option, Some, None, ◌≡◌, ℕ, Bool, true, false, List, [], inl, inr, sym, refl, subst}
+use Rattle.std.proofs.Common.{Option, Some, None, Err, ◌≡◌, ℕ, Bool, true, false, List, [], inl, inr, sym, refl, subst}
 use Rattle.std.specs.Prelude.{option_map}
 use Rattle.std.specs.Global.{Global}
 use Rattle.list_core.specs.declared.device.InputEnd.{InputEnd}
@@ -9,13 +9,12 @@ use Rattle.list_core.specs.declared.event_lines.EventLines.TheVariants.{First}
 use Rattle.list_core.specs.Device.{GivesOctets}
 use Rattle.list_core.specs.EventLine.{event_rules}
 use Rattle.list_core.specs.ReadItems.{AnswerOf}
-use Rattle.object_core.specs.declared.counted.Form.{Form}
 use Rattle.engine_core.specs.declared.ending.Ending.{Ending}
 use Rattle.engine_core.specs.declared.ending.Ending.TheVariants.{ReadFault}
 use Rattle.engine_core.specs.declared.stopped.Stopped.{Stopped}
 use Rattle.engine_core.specs.declared.style.Style.{Style}
 use Rattle.engine_core.specs.CaptureRun.{capture_input}
-use Rattle.engine_core.specs.EventsText.{EventAllows, FaultText, over_in}
+use Rattle.engine_core.specs.EventsText.{FaultText}
 use Rattle.engine_core.specs.Input.{Faults, GaveThen, Input, IsRead, Reader}
 use Rattle.engine_core.specs.Run.{list_input}
 use Rattle.engine_core.specs.RunOver.{LeavesSo, stopped_at}
@@ -24,24 +23,21 @@ use Rattle.engine_core.proofs.ReadFaults.{Blames, source_failed}
 use Rattle.exchange_engines.specs.declared.engines.replay.ReplayManner.{ReplayManner}
 use Rattle.exchange_engines.specs.declared.engines.replay.ReplayStop.{ReplayStop}
 use Rattle.exchange_engines.specs.declared.engines.replay.ReplayStop.TheVariants as why
-use Rattle.words_core.specs.CommandLine.{Asked, losses, replay}
+use Rattle.words_core.specs.CommandLine.{Asked, check, list_blocks, losses, replay, show, watch}
 use Rattle.words_core.specs.declared.option_words.Options.{Options}
-use Rattle.loss_core.specs.Periods.{Period}
-use Rattle.loss_engine.proofs.LossRuns.{losses_failed, losses_run}
 use Rattle.task_engine.specs.declared.stop.Stop.{Stop}
 use Rattle.task_engine.specs.declared.stop.Stop.TheVariants as stop
-use Rattle.task_engine.specs.EventTasks.{Ended, Left, OverWrites, StopsBy, TaskLeaves, TextLeft, Work, allowed_by, ended, left_of, left_over, manner}
+use Rattle.task_engine.specs.EventTasks.{Ended, Left, OverWrites, Settles, StopsBy, TaskLeaves, TextLeft, Work, allowed_by, ended, left_of, left_over}
 use Rattle.task_engine.specs.InputText.{EventsTell, InputTells, capture_last, list_last, of_list, of_stop, looked_where}
 use Rattle.task_engine.specs.RequestText.{EventsWrite, style_of}
 
 -- what is left so, a task leaves so too
 module _ {F : Type 0} (style : Style) (a : Left F) (b : List ℕ → Left F) (first last : Option (List ℕ)) (ending : Ending) (why : Option (ReplayStop F)) (old new : Option (List ℕ))
     (untouched : a.untouched → GivesOctets first last [] × (b []).untouched)
-    (text : (fault : Option F) (allows : Form → EventAllows Global) → a.text fault allows → GivenSo first last (λ given. (b given).text fault allows))
-    (losses_left : (fault : Option F) (periods : List Period) → a.losses fault periods → GivenSo first last (λ given. (b given).losses fault periods)) where
+    (text : (fault : Option F) (asked : Asked) (it : Settles asked) → a.text fault asked it → GivenSo first last (λ given. (b given).text fault asked it)) where
   text_left : (manner : ReplayManner) (asked : Asked) → StopsBy (TextLeft manner asked a) why → GivenSo first last (λ given. StopsBy (TextLeft manner asked (b given)) why)
   text_left manner asked l =
-      let r = text l.fault (allowed_by asked l.is_left.by) l.is_left.is_left in
+      let r = text l.fault asked l.is_left.by l.is_left.is_left in
       (r.0, r.1, record { fault = l.fault; by = l.by; is_left = record { by = l.is_left.by; is = l.is_left.is; is_left = r.2 } })
 
   task_left : (manner : ReplayManner) (asked : Asked) → TaskLeaves style manner asked a ending why old new → GivenSo first last (λ given. TaskLeaves style manner asked (b given) ending why old new)
@@ -55,14 +51,11 @@ module _ {F : Type 0} (style : Style) (a : Left F) (b : List ℕ → Left F) (fi
   task_left manner (replay blocks) (inr (inr ran)) =
       let r = text_left manner (replay blocks) (record { fault = ran.fault; by = ran.by; is_left = ran.is_left }) in
       (r.0, r.1, inr (inr (record { are_apart = ran.are_apart; fault = r.2.fault; by = r.2.by; is_left = r.2.is_left })))
-  task_left manner (losses periods) l =
-      let r = losses_left l.fault periods l.is_left in
-      (r.0, r.1, record { fault = l.fault; by = l.by; is_left = r.2 })
   task_left manner asked l = text_left manner asked l
 
--- what follows where a text is left, where losses are, and where nothing was read
+-- what follows where a text is left, and where nothing was read
 module _ {F : Type 0} {P : Type 0} (style : Style) (left : Left F) (ending : Ending) (why : Option (ReplayStop F)) (old new : Option (List ℕ))
-    (text : (fault : Option F) (allows : Form → EventAllows Global) → left.text fault allows → P) (losses_left : (fault : Option F) (periods : List Period) → left.losses fault periods → P) (untouched : left.untouched → (ending ≡ ReadFault → ⊥) → P) where
+    (text : (fault : Option F) (asked : Asked) (it : Settles asked) → left.text fault asked it → P) (untouched : left.untouched → (ending ≡ ReadFault → ⊥) → P) where
   pub task_any : (manner : ReplayManner) (asked : Asked) → TaskLeaves style manner asked left ending why old new → P
   task_any manner (replay blocks) (inl twice) = untouched twice.0.untouched (λ e. elim twice.0.written [
     | inl (inl w) ↦ let is = w.0 in cc
@@ -70,9 +63,18 @@ module _ {F : Type 0} {P : Type 0} (style : Style) (left : Left F) (ending : End
     | inr w ↦ let is = w.0 in cc
   ])
   task_any manner (replay blocks) (inr (inl none)) = untouched none.0.untouched (λ e. let is = none.0.wants_memory in cc)
-  task_any manner (replay blocks) (inr (inr ran)) = text ran.fault (allowed_by (replay blocks) ran.is_left.by) ran.is_left.is_left
-  task_any manner (losses periods) l = losses_left l.fault periods l.is_left
-  task_any manner asked l = text l.fault (allowed_by asked l.is_left.by) l.is_left.is_left
+  task_any manner (replay blocks) (inr (inr ran)) = text ran.fault (replay blocks) ran.is_left.by ran.is_left.is_left
+  task_any manner asked l = text l.fault asked l.is_left.by l.is_left.is_left
+
+-- no event is refused
+pub none_refused : {C F : Type 0} (style : Style) (last : FaultText F) (asked : Asked) (it : Settles asked) (before : List (ℕ × Event Global)) (e : ℕ × Event Global) (why : C) → (allowed_by {C = C} style last asked it).of_item before e (Err why) → ⊥
+none_refused style last show it before e why is = is
+none_refused style last check it before e why is = is
+none_refused style last list_blocks it before e why is = is
+none_refused style last (replay blocks) it before e why is = is
+none_refused style last (watch period id) it before e why is = is
+none_refused style last (losses periods) it before e why is = is
+none_refused style last _ it before e why is = absurd it
 
 -- ---- a reader of an input
 
@@ -85,26 +87,14 @@ module _ {I C F : Type 0} (reader : Reader I (Event Global) C F) (input : Input 
   over_input style work w =
       task_left style (left_over style reader last start stopped old new) (λ given. left_of style input last (ended stopped.ending (source stopped.reader) given old new)) (left start) (left stopped.reader) stopped.ending stopped.fault old new
       (λ u. (subst (λ x. GivesOctets (left start) (left x) []) (sym u) (none_given (left start)), (subst (λ x. source x ≡ Open) (sym u) is, refl)))
-      (λ fault allows run. input_run reader input left source (over_in style allows last) start (stopped_at stopped.ending fault stopped.reader) old new is reads
-      (subst (λ (f : Faults C F). LeavesSo (stopped.reader ≡ start) (GaveThen reader start stopped.reader) f (over_in style allows last) stopped.ending fault old new) same run))
-      (λ fault periods run. elim (losses_run (manner style last periods) reader input (source stopped.reader) (left start) (left stopped.reader) start (stopped_at stopped.ending fault stopped.reader) old new same reads run) [
-        | inl f ↦ (
-          [],
-          subst (λ x. GivesOctets (left start) (left x) []) (sym f.untouched) (none_given (left start)),
-          inl (record { write_fault = f.write_fault; by_none = f.by_none; untouched = (subst (λ x. source x ≡ Open) (sym f.untouched) is, refl); written = f.written }),
-        )
-        | inr l ↦ (l.0, l.1, inr l.2)
-      ])
+      (λ fault asked it run. input_run reader input left source (allowed_by style last asked it) start (stopped_at stopped.ending fault stopped.reader) old new is reads
+      (subst (λ (f : Faults C F). LeavesSo (stopped.reader ≡ start) (GaveThen reader start stopped.reader) f (allowed_by style last asked it) stopped.ending fault old new) same run))
       work.manner work.asked w
 
 -- it ends by a read fault only where the source of its input failed
 pub events_failed : {C F : Type 0} (of : F → Stop) (style : Style) (work : Work) (input : Input (Event Global) C F) (last : FaultText F) (end : Ended) (told : Option Stop) → Blames input → EventsTell of style work input last end told → end.ending ≡ ReadFault → end.source ≡ Failed
 events_failed of style work input last end told blames t = task_any style (left_of style input last end) end.ending t.0 end.old end.new
-    (λ fault allows run. source_failed input (over_in style allows last) end.ending fault end.source end.read end.old end.new blames (λ before e why no. absurd no) run)
-    (λ fault periods run e. elim run [
-      | inl f ↦ let other = f.write_fault in cc
-      | inr l ↦ losses_failed (manner style last periods) input end.ending fault end.source end.read end.old end.new blames l e
-    ])
+    (λ fault asked it run. source_failed input (allowed_by style last asked it) end.ending fault end.source end.read end.old end.new blames (λ before e why no. absurd (none_refused style last asked it before e why no)) run)
     (λ u no e. absurd (no e)) work.manner work.asked t.1
 
 -- ---- options

@@ -4,31 +4,26 @@ use Rattle.std.specs.Prelude.{option_map}
 use Rattle.std.specs.Global.{Global}
 use Rattle.list_core.specs.declared.device.InputEnd.TheVariants.{Failed}
 use Rattle.list_core.specs.declared.event.Event.{Event}
-use Rattle.list_core.specs.ReadItems.{AnswerOf, Gave}
-use Rattle.object_core.specs.declared.counted.Form.{Form}
+use Rattle.list_core.specs.ReadItems.{AnswerOf}
 use Rattle.engine_core.specs.declared.ending.Ending.{Ending}
 use Rattle.engine_core.specs.declared.ending.Ending.TheVariants.{ReadFault}
 use Rattle.engine_core.specs.declared.stopped.Halt.{Halt}
 use Rattle.engine_core.specs.declared.stopped.Halt.TheVariants as halt
 use Rattle.engine_core.specs.declared.stopped.Stopped.{Stopped}
 use Rattle.engine_core.specs.declared.style.Style.{Style}
-use Rattle.engine_core.specs.EngineText.{Allowed, exactly}
-use Rattle.engine_core.specs.EventsText.{EventAllows, FaultText, over_in}
+use Rattle.engine_core.specs.EngineText.{Allowed}
+use Rattle.engine_core.specs.EventsText.{FaultText}
 use Rattle.engine_core.specs.Input.{Faults, Reader}
 use Rattle.engine_core.specs.RunOver.{IsDue, Run, RunsOver, Stops, WantsFor, ending_by_halt, step_fault, stopped_at}
 use Rattle.engine_core.proofs.InputRuns.{GivenSo}
 use Rattle.exchange_engines.specs.declared.engines.replay.ReplayStop.{ReplayStop}
-use Rattle.loss_core.specs.Periods.{Period}
-use Rattle.loss_engine.specs.LossText.{written_pieces}
-use Rattle.loss_engine.specs.computed.Judging.{events_of}
-use Rattle.loss_engine.specs.computed.LossesOver.{LossesOver}
-use Rattle.loss_engine.proofs.Judged.{AtStop, judged_beneath}
+use Rattle.words_core.specs.CommandLine.{Asked}
 use Rattle.task_engine.specs.declared.stop.Stop.{Stop}
 use Rattle.task_engine.specs.EventReader.{InputState, LeftOrReads, Look, LooksFrom, TellsStop}
-use Rattle.task_engine.specs.EventTasks.{OverWrites, Work, ended, left_over, manner}
+use Rattle.task_engine.specs.EventTasks.{OverWrites, Settles, Work, allowed_by, ended, left_over}
 use Rattle.task_engine.specs.HandedOut.{ReadsAll}
 use Rattle.task_engine.specs.InputText.{EventsTell, of_stop}
-use Rattle.task_engine.proofs.EventTaskLemmas.{events_failed, over_input, task_any}
+use Rattle.task_engine.proofs.EventTaskLemmas.{events_failed, none_refused, over_input, task_any}
 
 module _ {X C F : Type 0} (faults : Faults C F) (t : Allowed X C F) (none : (before : List (ℕ × X)) (e : ℕ × X) (why : C) → t.of_item before e (Err why) → ⊥) where
   -- the text that a fault closes is the last one of the input, where no item is refused
@@ -51,51 +46,26 @@ module _ {X C F : Type 0} (faults : Faults C F) (t : Allowed X C F) (none : (bef
   ran_all : {IsReadSo : List (ℕ × X) → AnswerOf X F → Type 0} (ending : Ending) (fault : Option F) (old new : Option (List ℕ)) (run : Run IsReadSo faults t ending fault old new) → ReadsAll ending → TellsStop run.answer
   ran_all ending fault old new run = elim run.ends [
     | inl e ↦ λ r. subst (λ (a : AnswerOf X F). TellsStop a) (sym e.ended) tt
-    | inr e ↦ λ r. halted run.items run.answer e.halt run.held new e.stops (subst ReadsAll e.has_ending r)
+    | inr (inl e) ↦ λ r. halted run.items run.answer e.halt run.held new e.stops (subst ReadsAll e.has_ending r)
+    | inr (inr e) ↦ λ r. subst (λ (a : AnswerOf X F). TellsStop a) (sym e.ended) tt
   ]
-
--- the same, in the words of `losses`
-told_at : {X F : Type 0} (answer : AnswerOf X F) → TellsStop answer → AtStop answer
-told_at (Ok None) h = h
-told_at (Ok (Some e)) h = h
-told_at (Err (Some f)) h = h
-told_at (Err None) h = h
-
-told_so : {X F : Type 0} (answer : AnswerOf X F) → AtStop answer → TellsStop answer
-told_so (Ok None) h = h
-told_so (Ok (Some e)) h = h
-told_so (Err (Some f)) h = h
-told_so (Err None) h = h
 
 module _ {I C F : Type 0} (reader : Reader I (Event Global) C F) (last : FaultText F) (start : I) (stopped : Stopped I (ReplayStop F)) (style : Style) (old new : Option (List ℕ)) where
   abbrev Either : Type 0
   Either = LeftOrReads reader start stopped.reader stopped.ending
 
-  reads_by : (fault : Option F) (allows : Form → EventAllows Global) → RunsOver reader (over_in style allows last) start (stopped_at stopped.ending fault stopped.reader) old new → Either
-  reads_by fault allows (inl w) = inl w.untouched
-  reads_by fault allows (inr run) = inr (record { items = run.items; answer = run.answer; gave = run.read; all = ran_all reader.faults (over_in style allows last) (λ before e why is. is) stopped.ending fault old new run })
-
-  -- so does a run of `losses`: what it read, the reader beneath gave
-  reads_losses : (fault : Option F) (periods : List Period) → LossesOver (manner style last periods) reader start (stopped_at stopped.ending fault stopped.reader) old new → Either
-  reads_losses fault periods w = elim w.run [
-    | inl f ↦ inl (sym w.ends ∙ ap events_of f.untouched ∙ w.begins)
-    | inr run ↦
-        let under = judged_beneath reader.answers reader.number w.first run.read.before w.last run.items run.answer w.opens run.read.gave run.read.answered in
-        inr (record {
-          items = under.events;
-          answer = under.raw;
-          gave = record {
-            before = under.before;
-            gave = subst (λ (x : I). Gave reader.answers x under.events under.before) w.begins under.gave;
-            answered = subst (λ (x : I). reader.answers under.before under.raw x) w.ends under.answered;
-          };
-          all = λ r. told_so under.raw (under.stops (told_at run.answer (ran_all reader.faults (exactly (written_pieces {C = C} (manner style last periods))) (λ before e why is. cc) stopped.ending fault old new run r)));
-        })
-  ]
+  reads_by : (fault : Option F) (asked : Asked) (it : Settles asked) → RunsOver reader (allowed_by style last asked it) start (stopped_at stopped.ending fault stopped.reader) old new → Either
+  reads_by fault asked it (inl w) = inl w.untouched
+  reads_by fault asked it (inr run) = inr (record {
+    items = run.items;
+    answer = run.answer;
+    gave = run.read;
+    all = ran_all reader.faults (allowed_by style last asked it) (none_refused style last asked it) stopped.ending fault old new run;
+  })
 
   -- a task leaves its reader untouched, or reads
   pub reads : (work : Work) → OverWrites style work reader last start stopped old new → Either
-  reads work w = task_any style (left_over style reader last start stopped old new) stopped.ending stopped.fault old new reads_by reads_losses (λ u e. inl u) work.manner work.asked w
+  reads work w = task_any style (left_over style reader last start stopped old new) stopped.ending stopped.fault old new reads_by (λ u e. inl u) work.manner work.asked w
 
 -- ---- a reader of which it is known what it looks at
 

@@ -1,5 +1,5 @@
 -- What tasks over events leave, whatever input has the events, and why they stop.
-use Rattle.std.specs.Prelude.{◌≡◌, ◌⊎◌, ℕ, List, Option, option_map}
+use Rattle.std.specs.Prelude.{◌≡◌, ℕ, List, Option, option_map}
 use Rattle.std.specs.Global.{Global}
 use Rattle.list_core.specs.declared.device.InputEnd.{InputEnd}
 use Rattle.list_core.specs.declared.device.InputEnd.TheVariants.{Open}
@@ -8,10 +8,10 @@ use Rattle.engine_core.specs.declared.ending.Ending.{Ending}
 use Rattle.engine_core.specs.declared.stopped.Stopped.{Stopped}
 use Rattle.engine_core.specs.declared.style.Style.{Style}
 use Rattle.object_core.specs.declared.counted.Form.{Form}
-use Rattle.engine_core.specs.EngineText.{exactly}
-use Rattle.engine_core.specs.EventsText.{EventAllows, EventText, FaultText, exactly_each, exactly_event, over_in}
+use Rattle.engine_core.specs.EngineText.{Allowed}
+use Rattle.engine_core.specs.EventsText.{EventText, FaultText, exactly_each, exactly_event, over_in}
 use Rattle.engine_core.specs.Input.{Input, Reader}
-use Rattle.engine_core.specs.RunOver.{FailsBefore, IsUntouched, Leaves, OfKind, RunsOver, stopped_at}
+use Rattle.engine_core.specs.RunOver.{IsUntouched, Leaves, OfKind, RunsOver, stopped_at}
 use Rattle.frame_engines.specs.ShowObject.{show_allows}
 use Rattle.frame_engines.specs.CheckObject.{check_event_in}
 use Rattle.inventory_engine.specs.BlocksText.{AreBlocksTexts}
@@ -20,19 +20,17 @@ use Rattle.exchange_engines.specs.WatchText.{AreWatchTexts}
 use Rattle.exchange_engines.specs.declared.engines.replay.ReplayManner.{ReplayManner}
 use Rattle.exchange_engines.specs.declared.engines.replay.ReplayStop.{ReplayStop}
 use Rattle.exchange_engines.specs.declared.engines.replay.ReplayStop.TheVariants as why
-use Rattle.loss_core.specs.Periods.{Period}
-use Rattle.loss_engine.specs.LossText.{Manner, written_pieces}
-use Rattle.loss_engine.specs.LossWants.{WritesLosses}
-use Rattle.loss_engine.specs.computed.LossesOver.{LossesOver}
+use Rattle.loss_engine.specs.LossText.{losses_text}
 use Rattle.words_core.specs.CommandLine.{Asked, show, check, list_blocks, losses, replay, watch}
 
--- what settles what a task writes of events, beside the form: nothing, a text for each form, or the entries of a subscriber; `losses` writes piece by piece, and a task over something else nothing of events
+-- what settles what a task writes of events, beside the form: nothing, a text for each form, or the entries of a subscriber; a task over something else writes nothing of events
 abbrev pub Settles : Asked → Type 0
 Settles show = Unit {0}
 Settles check = Unit {0}
 Settles list_blocks = Form → EventText Global
 Settles (replay blocks) = Says Global
 Settles (watch period id) = Form → EventText Global
+Settles (losses periods) = Unit {0}
 Settles _ = ⊥
 
 -- it is that of this task, a replay in this manner
@@ -42,25 +40,25 @@ IsOf manner check it = Unit {0}
 IsOf manner list_blocks texts = AreBlocksTexts texts
 IsOf manner (replay blocks) says = AreTold manner blocks says
 IsOf manner (watch period id) texts = AreWatchTexts period id texts
+IsOf manner (losses periods) it = Unit {0}
 IsOf manner _ it = ⊥
 
--- what the task may write of an event in each form
-abbrev pub allowed_by : (asked : Asked) → Settles asked → Form → EventAllows Global
-allowed_by show it form = show_allows form
-allowed_by check it form = exactly_event (check_event_in form)
-allowed_by list_blocks texts form = exactly_each texts form
-allowed_by (replay blocks) says form = entries_in blocks says form
-allowed_by (watch period id) texts form = exactly_each texts form
-allowed_by _ it form = absurd it
+-- what the task may write of events in a style, where the fault of their input is told so
+abbrev pub allowed_by : {C F : Type 0} → Style → FaultText F → (asked : Asked) → Settles asked → Allowed (Event Global) C F
+allowed_by style last show it = over_in style show_allows last
+allowed_by style last check it = over_in style (λ form. exactly_event (check_event_in form)) last
+allowed_by style last list_blocks texts = over_in style (exactly_each texts) last
+allowed_by style last (replay blocks) says = over_in style (entries_in blocks says) last
+allowed_by style last (watch period id) texts = over_in style (exactly_each texts) last
+allowed_by style last (losses periods) it = losses_text (record { periods = periods; style = style; last = last })
+allowed_by style last _ it = absurd it
 
 -- ---- what is left
 
--- What a run over events leaves: what was untouched where nothing was read; by which fault of the input, where that may be written of an event in each form;
--- and by which fault where losses are told of streams with these periods.
+-- What a run over events leaves: what was untouched where nothing was read; and by which fault of the input, where a task is done by what settles it.
 pub record Left (F : Type 0) : Type 1 where
   pub untouched : Type 0
-  pub text : Option F → (Form → EventAllows Global) → Type 0
-  pub losses : Option F → List Period → Type 0
+  pub text : Option F → (asked : Asked) → Settles asked → Type 0
 
 -- a run stops by this fault of its input, where that is left of it
 pub record StopsBy {F : Type 0} (IsLeft : Option F → Type 0) (stop : Option (ReplayStop F)) : Type 0 where
@@ -70,12 +68,11 @@ pub record StopsBy {F : Type 0} (IsLeft : Option F → Type 0) (stop : Option (R
 
 -- the text of a task is left
 abbrev pub TextLeft : {F : Type 0} → ReplayManner → (asked : Asked) → Left F → Option F → Type 0
-TextLeft manner asked left fault = OfKind (IsOf manner asked) (λ it. left.text fault (allowed_by asked it))
+TextLeft manner asked left fault = OfKind (IsOf manner asked) (λ it. left.text fault asked it)
 
 -- what a task over events leaves in a style, a replay in a manner, and why it stops; a replay may be refused its blocks
 abbrev pub TaskLeaves : {F : Type 0} → Style → ReplayManner → Asked → Left F → Ending → Option (ReplayStop F) → Option (List ℕ) → Option (List ℕ) → Type 0
 TaskLeaves style manner (replay blocks) left ending stop old new = ReplaysSo left.untouched style manner blocks (TextLeft manner (replay blocks) left) ending stop old new
-TaskLeaves style manner (losses periods) left ending stop old new = StopsBy (λ fault. left.losses fault periods) stop
 TaskLeaves style manner asked left ending stop old new = StopsBy (TextLeft manner asked left) stop
 
 -- what is asked for, and in which manner a replay is done
@@ -87,18 +84,13 @@ pub record Work : Type 0 where
 abbrev pub plain_work : Asked → Work
 plain_work asked = record { asked = asked; manner = plainly }
 
--- how losses are told in a style
-abbrev pub manner : {F : Type 0} → Style → FaultText F → List Period → Manner F
-manner style last periods = record { periods = periods; style = style; last = last }
-
 -- ---- over a reader
 
 -- what a run over a reader of events leaves in a style
 abbrev pub left_over : {I C F : Type 0} → Style → Reader I (Event Global) C F → FaultText F → I → Stopped I (ReplayStop F) → Option (List ℕ) → Option (List ℕ) → Left F
 left_over style reader last start stopped old new = record {
   untouched = stopped.reader ≡ start;
-  text = λ fault allows. RunsOver reader (over_in style allows last) start (stopped_at stopped.ending fault stopped.reader) old new;
-  losses = λ fault periods. LossesOver (manner style last periods) reader start (stopped_at stopped.ending fault stopped.reader) old new;
+  text = λ fault asked it. RunsOver reader (allowed_by style last asked it) start (stopped_at stopped.ending fault stopped.reader) old new;
 }
 
 -- what a task over a reader of events leaves in a style, and why it stops
@@ -118,12 +110,9 @@ pub record Ended : Type 0 where
 abbrev pub ended : Ending → InputEnd → List ℕ → Option (List ℕ) → Option (List ℕ) → Ended
 ended ending source read old new = record { ending = ending; source = source; read = read; old = old; new = new }
 
--- what a run over an input of events leaves in a style, and by which fault it ended, where that may be written of an event
+-- what a run over an input of events leaves in a style, and by which fault it ended
 abbrev pub left_of : {C F : Type 0} → Style → Input (Event Global) C F → FaultText F → Ended → Left F
-left_of {C = C} style input last end = record {
+left_of style input last end = record {
   untouched = IsUntouched Open end.source end.read;
-  text = λ fault allows. Leaves input (over_in style allows last) end.ending fault end.source end.read end.old end.new;
-  losses = λ fault periods.
-      FailsBefore (IsUntouched Open end.source end.read) (exactly (written_pieces {C = C} (manner style last periods))) end.ending fault end.old end.new
-      ⊎ WritesLosses (manner style last periods) input end.ending fault end.source end.read end.old end.new;
+  text = λ fault asked it. Leaves input (allowed_by style last asked it) end.ending fault end.source end.read end.old end.new;
 }

@@ -262,6 +262,10 @@ impl<A: Allocator> Engine<A, ItemFault<ScriptCause>> for Publishing<A> {
         }
     }
 
+    fn put_end(&self, _line: &mut Vec<u8, A>, _at: u128) -> Result<Option<bool>, AllocError> {
+        Ok(None)
+    }
+
     fn put_last(
         &self,
         line: &mut Vec<u8, A>,

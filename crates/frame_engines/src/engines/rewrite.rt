@@ -162,6 +162,10 @@ impl<A: Allocator> Engine<A, ItemFault<ListCause>> for RewriteText {
         }
     }
 
+    fn put_end(&self, _line: &mut Vec<u8, A>, _at: u128) -> Result<Option<bool>, AllocError> {
+        Ok(None)
+    }
+
     fn put_last(
         &self,
         line: &mut Vec<u8, A>,

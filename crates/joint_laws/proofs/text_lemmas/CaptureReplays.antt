@@ -26,7 +26,8 @@ use Rattle.engine_core.specs.declared.ending.Ending.TheVariants.{Done, Findings,
 use Rattle.engine_core.specs.EngineText.{AreAllowedTexts, ItemText, has_finding, joined_texts}
 use Rattle.engine_core.specs.CaptureRun.{capture_faults, capture_input}
 use Rattle.engine_core.specs.MadeRun.{made, with_each}
-use Rattle.engine_core.specs.WholeRun.{AllowsEach, IsWholeText, LeavesFront, LeavesToFault, LeavesWholeText, stop_text}
+use Rattle.engine_core.specs.WholeRun.{AllowsEach, IsWholeText, LeavesFront, LeavesToFault, LeavesWholeText, StopsWith}
+use Rattle.engine_core.proofs.Ends.{no_end}
 use Rattle.engine_core.proofs.ItemTexts.{AreNext, are_next}
 use Rattle.engine_core.proofs.WholeRuns.{input_is}
 use Rattle.exchange_engines.specs.EntryText.{entry_lines}
@@ -63,10 +64,10 @@ module _ {A : Type 0} (blocks : List (Block A)) (said : Says A) (apart : AreApar
         ap₂ (λ (a b : Bool). a || b) finds more.1,
       )
 
-  last_is : (stop : Stop CaptureFault) → stop_text (replay_lines blocks said) stop ≡ fault_lines stop
-  last_is finished = refl
-  last_is unfinished = refl
-  last_is (faulty f) = refl
+  last_is : (items : List (ℕ × Event A)) (stop : Stop CaptureFault) (last : List ℕ × Bool) → StopsWith (replay_lines blocks said) items stop last → last ≡ (fault_lines stop, false)
+  last_is items finished last (lines, none, is) = is ∙ ap (λ (l : List ItemText). (joined_texts l, has_finding l)) none
+  last_is items unfinished last is = is
+  last_is items (faulty f) last is = is
 
   -- a whole text of a capture is the lines of its entries and of its fault, and stops as the capture does
   record IsOfCapture (l : Numbered (Event A) CaptureFault) (entries : List (List (Entry A))) (text : List ℕ) (found : Bool) (stop : Stop CaptureFault) : Type 0 where
@@ -75,13 +76,18 @@ module _ {A : Type 0} (blocks : List (Block A)) (said : Says A) (apart : AreApar
     stops : l.stop ≡ stop
 
   at_items : (items : List (ℕ × Event A)) (stop : Stop CaptureFault) (texts : List ItemText) → AreAllowedTexts (replay_lines blocks said) items texts → (entries : List (List (Entry A))) → AreEntries blocks (events_of items) entries →
-      (text : List ℕ) (found : Bool) → text ≡ joined_texts texts ++ stop_text (replay_lines blocks said) stop → has_finding texts ≡ found →
+      (text : List ℕ) (found : Bool) (last : List ℕ × Bool) → StopsWith (replay_lines blocks said) items stop last → text ≡ joined_texts texts ++ last.0 → (has_finding texts || last.1) ≡ found →
       IsOfCapture (record { items = items; stop = stop }) entries text found stop
-  at_items items stop texts allowed entries have text found is finds =
+  at_items items stop texts allowed entries have text found last with_last is finds =
+      let is_last : last ≡ (fault_lines stop, false) = last_is items stop last with_last in
       let at : (i : ℕ) (x : List (Entry A)) → slice_get entries i ≡ Some x → AreEntriesAt blocks (events_of items) (0 + i) x =
       λ i x here. let none : i ≡ 0 + i = omega arith in subst (λ (j : ℕ). AreEntriesAt blocks (events_of items) j x) none (have.each i x here) in
       let lines = texts_are [] items texts (are_next (replay_lines blocks said) [] items texts allowed.one_each allowed.each) entries (have.sizes ∙ length-map items (λ (e : ℕ × Event A). e.1)) at in
-      record { writes = is ∙ ap₂ (λ (a b : List ℕ). a ++ b) lines.0 (last_is stop); none_found = sym finds ∙ lines.1; stops = refl }
+      record {
+        writes = is ∙ ap₂ (λ (a b : List ℕ). a ++ b) lines.0 (ap (λ (l : List ℕ × Bool). l.0) is_last);
+        none_found = sym finds ∙ ap₂ (λ (a b : Bool). a || b) lines.1 (ap (λ (l : List ℕ × Bool). l.1) is_last);
+        stops = refl;
+      }
 
   whole_is : (l : Numbered (Event A) CaptureFault) (entries : List (List (Entry A))) → AreEntries blocks (events_of l.items) entries → (text : List ℕ) (found : Bool) (stop : Stop CaptureFault) →
       IsWholeText capture_faults.refused (replay_lines blocks said) l text found stop → IsOfCapture l entries text found stop
@@ -90,13 +96,13 @@ module _ {A : Type 0} (blocks : List (Block A)) (said : Says A) (apart : AreApar
         let same : record { items = w.items; stop = stop } ≡ l =
         sym (w.says ∙ ap (put_items w.items) h ∙ ap (λ (es : List (ℕ × Event A)). record { items = es; stop = stop }) (append-nil w.items)) in
         subst (λ (m : Numbered (Event A) CaptureFault). IsOfCapture m entries text found stop) same
-        (at_items w.items stop w.texts w.are_texts entries (subst (λ (m : Numbered (Event A) CaptureFault). AreEntries blocks (events_of m.items) entries) (sym same) have) text found w.is_text w.finds)
+        (at_items w.items stop w.texts w.are_texts entries (subst (λ (m : Numbered (Event A) CaptureFault). AreEntries blocks (events_of m.items) entries) (sym same) have) text found w.last w.stops_with w.is_text w.finds)
     | inr x ↦ absurd x.1.is_refused
   ]
 
   -- of each event something may be written
   allows_each : AllowsEach (replay_lines blocks said)
-  allows_each before e = (Ok (entry_lines e.0 (said before e), false), refl)
+  allows_each = record { of_item = λ before e. (Ok (entry_lines e.0 (said before e), false), refl); at_end = no_end }
 
   by_fault : (l : Numbered (Event A) CaptureFault) (entries : List (List (Entry A))) → AreEntries blocks (events_of l.items) entries → (ending : Ending) (fault : Option CaptureFault) (old new : Option (List ℕ)) →
       LeavesToFault capture_faults (replay_lines blocks said) l ending fault old new → EndsByItsFault l entries ending fault old new

@@ -43,26 +43,34 @@ use Rattle.exchange_engines.specs.WatchText.{AreWatchTexts, frame_watched, sampl
 use Rattle.inventory_engine.specs.BlocksText.{AreBlocksTexts, line_after, sighting_line}
 use Rattle.inventory_engine.specs.BlocksText as blocks_text
 use Rattle.inventory_engine.specs.Sightings.{Sighting}
+use Rattle.engine_core.proofs.Ends.{no_end}
 use Rattle.joint_laws.specs.WholeTexts.{BlocksIsLines, CheckIsLines, FixedWritesEach, ReplayIsLines, ReplayWritesEach, ShowIsLines, ShowWritesEach, TextIsLines, WatchIsLines}
 
 -- ---- that something is written
 
 pub fixed_writes_each : {A C F : Type 0} → FixedWritesEach A C F
-fixed_writes_each (Lines form) texts last before e = (Ok (texts form before e), refl)
-fixed_writes_each Dated texts last before e =
-    let w = texts Text before e in
-    (Ok (dated e.1.moment w.0, w.1), record { text = w.0; is_allowed = refl; is_dated = refl })
+fixed_writes_each (Lines form) texts last = record { of_item = λ before e. (Ok (texts form before e), refl); at_end = no_end }
+fixed_writes_each Dated texts last = record {
+  of_item = λ before e. let w = texts Text before e in (Ok (dated e.1.moment w.0, w.1), record { text = w.0; is_allowed = refl; is_dated = refl });
+  at_end = no_end;
+}
 
 pub show_writes_each : {A C F : Type 0} → ShowWritesEach A C F
 show_writes_each = record {
-  plain = λ last before e. (Ok (show_event before e), refl);
-  dated = λ last before e. let w = show_event before e in (Ok (dated e.1.moment w.0, w.1), record { text = w.0; is_allowed = refl; is_dated = refl });
+  plain = λ last. record { of_item = λ before e. (Ok (show_event before e), refl); at_end = no_end };
+  dated = λ last. record {
+    of_item = λ before e. let w = show_event before e in (Ok (dated e.1.moment w.0, w.1), record { text = w.0; is_allowed = refl; is_dated = refl });
+    at_end = no_end;
+  };
 }
 
 pub replay_writes_each : {A C F : Type 0} → ReplayWritesEach A C F
 replay_writes_each blocks says = record {
-  plain = λ last before e. (Ok (entry_lines e.0 (says before e), false), refl);
-  dated = λ last before e. let w = entry_lines e.0 (says before e) in (Ok (dated e.1.moment w, false), record { text = w; is_allowed = refl; is_dated = refl });
+  plain = λ last. record { of_item = λ before e. (Ok (entry_lines e.0 (says before e), false), refl); at_end = no_end };
+  dated = λ last. record {
+    of_item = λ before e. let w = entry_lines e.0 (says before e) in (Ok (dated e.1.moment w, false), record { text = w; is_allowed = refl; is_dated = refl });
+    at_end = no_end;
+  };
 }
 
 -- ---- whole lines

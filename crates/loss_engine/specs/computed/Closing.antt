@@ -1,5 +1,5 @@
 -- What a line at the end of the input tells, as it is computed.
-use Rattle.std.specs.Prelude.{◌≡◌, ℕ, Bool, true, false, List, [], ◌++◌, slice_get, Option, Some, None, MatchOption}
+use Rattle.std.specs.Prelude.{◌≡◌, ℕ, Bool, true, false, slice_get, Option, Some, None, MatchOption}
 use Rattle.object_core.specs.declared.counted.Form.{Form}
 use Rattle.engine_core.specs.EngineText.{ItemText}
 use Rattle.loss_engine.specs.declared.closing.Closing.{Closing}
@@ -28,12 +28,3 @@ is_empty_closing (told.Counted key n) = false
 -- the line at this position, in each form; or there is none
 abbrev pub IsClosingAt : Kept → ℕ → Option Closing → Type 0
 IsClosingAt k at answer = (form : Form) → MatchOption answer (slice_get (closing_by form k) at ≡ None) (λ c. slice_get (closing_by form k) at ≡ Some (closing_item form k.moment c))
-
--- the line at this position was appended, and it was answered whether it is a finding; or there is none
-abbrev pub ClosingPut : List ItemText → ℕ → List ℕ → Option Bool → List ℕ → Type 0
-ClosingPut lines at old None new = (slice_get lines at ≡ None) × (new ≡ old)
-ClosingPut lines at old (Some found) new = (w : ItemText) × (slice_get lines at ≡ Some w) × (new ≡ old ++ w.text) × (found ≡ w.is_finding)
-
--- memory was wanted for the line at this position
-abbrev pub ClosingWanted : List ItemText → ℕ → Type 0
-ClosingWanted lines at = (w : ItemText) × (slice_get lines at ≡ Some w) × (w.text ≡ [] → ⊥)

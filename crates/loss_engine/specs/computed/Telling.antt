@@ -1,12 +1,14 @@
 -- What one event makes `losses` write and keep.
 use Rattle.std.specs.Prelude.{◌≡◌, ◌⊎◌, ◌||◌, ℕ, Bool, true, is_some, List, [], ◌++◌, Option}
 use Rattle.std.specs.List.{list_any}
+use Rattle.list_core.specs.declared.event.Event.{Event}
 use Rattle.object_core.specs.declared.counted.Heading.{Heading}
+use Rattle.engine_core.specs.declared.style.Style.{Style}
 use Rattle.loss_core.specs.Findings.{has_loss}
 use Rattle.loss_core.specs.Periods.{Period}
 use Rattle.loss_engine.specs.LossText.{back_lines, sight_lines}
 use Rattle.loss_engine.specs.Sights.{Sight}
-use Rattle.loss_engine.specs.computed.Tracking.{Kept, Tracked, findings_all, shows_new, track_all}
+use Rattle.loss_engine.specs.computed.Tracking.{Kept, Tracked, findings_all, keep, piece_by, shows_new, sights_by, track_all}
 
 -- what sights tell under a heading, where this is tracked before them
 abbrev pub sights_text : Heading → List Period → List Tracked → List Sight → List ℕ
@@ -35,3 +37,13 @@ pub record TellsAll (h : Heading) (back : Option ℕ) (periods : List Period) (b
 -- memory is wanted for a sender or a stream that is new, or for what an event tells
 abbrev pub WantsAll : Heading → Option ℕ → List Period → Kept → List Sight → Type 0
 WantsAll h back periods before seen = (shows_new before.tracked seen ≡ true) ⊎ (event_lines h back periods before.tracked seen ≡ [] → ⊥)
+
+-- the piece of an event was appended, it was answered whether that is a finding, and the event is kept
+pub record PutsPiece {A : Type 0} (periods : List Period) (style : Style) (before : Kept) (e : ℕ × Event A) (old : List ℕ) (found : Bool) (new : List ℕ) (after : Kept) : Type 0 where
+  pub text : new ≡ old ++ (piece_by periods style before e).text
+  pub finds : found ≡ (piece_by periods style before e).is_finding
+  pub keeps : after ≡ keep periods before e.1
+
+-- memory is wanted for a sender or a stream of an event that is new, or for its piece
+abbrev pub WantsPiece : {A : Type 0} → List Period → Style → Kept → ℕ × Event A → Type 0
+WantsPiece periods style before e = (shows_new before.tracked (sights_by before e.1) ≡ true) ⊎ ((piece_by periods style before e).text ≡ [] → ⊥)

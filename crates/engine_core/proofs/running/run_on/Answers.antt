@@ -1,6 +1,6 @@
 use Rattle.std.proofs.Common.{rules, [], ◌++◌, ◌∷◌}
-use Rattle.engine_core.proofs.EngineSteps.{alike_back, alike_self, alike_then, stops_alike, wrote_alike}
-use Rattle.engine_core.proofs.ReaderRuns.{go_on, ran_none, ended, stopped, not_begun}
+use Rattle.engine_core.proofs.EngineSteps.{alike_back, alike_self, alike_then, closes_alike, stops_alike, wrote_alike}
+use Rattle.engine_core.proofs.ReaderRuns.{go_on, ran_none, closed, stopped, not_begun}
 use Rattle.engine_core.proofs.running.run_on.Goals as goal
 
 pub returns-in-Err-clause-text : goal.returns-in-Err-clause-text
@@ -33,8 +33,8 @@ returns-in-Ended-clause-text g c =
     let s = c.in-Ended.ensures.step in
     let w = s.2 p.0 p.1 in
     let q = rw w.0 at s.1 in
-    let r = ended _ _ _ _ _ p.0 _ _ _ _ _ (rw c.requires.first at c.in-Ok.ensures.written) p.2 q w.1 in
-    rw c.ending_where.ensures r
+    let e = closes_alike _ _ (alike_then _ _ _ (alike_back _ _ c.in-Ended.ensures.same) c.answers.invariant.same) p.0 _ _ _ _ _ _ (c.close.ensures.closes p.0 w.2 p.2.texts p.2.finds) in
+    closed _ _ _ _ _ p.0 _ _ _ _ _ (rw c.requires.first at c.in-Ok.ensures.written) p.2 _ _ q (rw w.1 at e)
 
 pub returns-in-Stop-clause-text : goal.returns-in-Stop-clause-text
 returns-in-Stop-clause-text g c =

@@ -6,14 +6,14 @@ use Rattle.loss_engine.specs.computed.Held.{kept_by}
 use Rattle.loss_engine.proofs.Closings.{closing_there, found_in}
 use Rattle.loss_engine.proofs.closing.put_closing.Goals as goal
 
-pub returns-in_err-put_styled-clause-wants : goal.returns-in_err-put_styled-clause-wants
-returns-in_err-put_styled-clause-wants g c =
+pub returns-in_err-put_styled-clause-line : goal.returns-in_err-put_styled-clause-line
+returns-in_err-put_styled-clause-line g c =
     let p = err_from_is_err_and c.from_residual.result c.from_residual.ensures.1 in
     let there = closing_there c.args.style (kept_by c.args.losses.now) c.args.at c.in-Some.closing c.in-Some.ensures.is in
     rw p.1 (closing_in c.args.style (closing_item (form_of c.args.style) (kept_by c.args.losses.now).moment c.in-Some.closing), there, rw c.greatest-end.ensures at c.in_err-put_styled.ensures.quiet)
 
-pub returns-clause-put : goal.returns-clause-put
-returns-clause-put g c =
+pub returns-clause-line : goal.returns-clause-line
+returns-clause-line g c =
     let w = closing_item (form_of c.args.style) (kept_by c.args.losses.now).moment c.in-Some.closing in (
       closing_in c.args.style w,
       closing_there c.args.style (kept_by c.args.losses.now) c.args.at c.in-Some.closing c.in-Some.ensures.is,
