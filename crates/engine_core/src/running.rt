@@ -225,15 +225,15 @@ fn close<A: Allocator, F: InputFault, E: Engine<A, F>, W: Sink>(
         ⊎ HaltsAtEnd (E.allows engine.now) items (Ok None) result.0 result.1 (W.contents writer.old) (W.contents writer.new) }
     ensures fault { W.failed writer.new ≡ is_write_fault result.0 }
 {
-    let mut has_found = found;
+    let mut finds = found;
     let mut at = 0;
     'lines: loop {
         match answer_line(engine, line, at, writer) {
-            Next::Wrote(is_finding) => {
-                has_found = has_found || is_finding;
+            Next::Wrote(is_found) => {
+                finds |= is_found;
                 at += 1;
             }
-            Next::Ended => return (ending_where(has_found), None),
+            Next::Ended => return (ending_where(finds), None),
             Next::Stop(halt) => return ended_by(halt),
         }
     }

@@ -7,7 +7,7 @@ abbrev pub invariant-lines : goal.invariant-lines
 invariant-lines g l = record {
   works : g.W.Sink.failed l.writer ≡ false;
   so_far : (items : List (ℕ × g.row.E-Item.Denot)) → g.E.Engine.stands l.engine items → (lines : List ItemText) → (g.E.Engine.allows l.engine).at_end items lines →
-      Closed lines l.at l.initial.has_found l.has_found (g.W.Sink.contents l.initial.writer) (g.W.Sink.contents l.writer);
+      Closed lines l.at l.initial.finds l.finds (g.W.Sink.contents l.initial.writer) (g.W.Sink.contents l.writer);
 }
 
 abbrev pub decreases-lines : goal.decreases-lines
