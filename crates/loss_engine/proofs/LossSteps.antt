@@ -19,6 +19,10 @@ keep_push : {A : Type 0} (periods : List Period) (k : Kept) (before : List (ℕ 
 keep_push periods k [] e = refl
 keep_push periods k (x ∷ before) e = keep_push periods (keep periods k x.1) before e
 
+-- how losses are told
+abbrev pub manner : {F : Type 0} → List Period → Style → FaultText F → Manner F
+manner periods style last = record { periods = periods; style = style; last = last }
+
 module _ {A : Type 0} (periods : List Period) (are : ArePeriods periods) (style : Style) where
   -- this is kept behind these events
   abbrev pub KeptBehind : Kept → List (ℕ × Event A) → Type 0
@@ -47,12 +51,9 @@ module _ {A : Type 0} (periods : List Period) (are : ArePeriods periods) (style 
   piece_once k before e w is told = event_once periods style before e (piece_by periods style k e) w (piece_told k before e is) told
 
   module _ {C F : Type 0} (last : FaultText F) where
-    abbrev how : Manner F
-    how = record { periods = periods; style = style; last = last }
-
     -- it was written, and the event is kept
     pub piece_taken : (k after : Kept) (now : List Period) (before : List (ℕ × Event A)) (e : ℕ × Event A) (found : Bool) (old new : List ℕ) → KeptBehind k before → now ≡ periods → PutsPiece periods style k e old found new after →
-        ItemTaken (losses_text {C = C} how) (λ items. after ≡ keep_all now kept_none items) before e found old new
+        ItemTaken (losses_text {C = C} (manner periods style last)) (λ items. after ≡ keep_all now kept_none items) before e found old new
     piece_taken k after now before e found old new is same p = record {
       text = (piece_by periods style k e).text;
       has_text = subst (λ (f : Bool). TellsEvent periods style before e (record { text = (piece_by periods style k e).text; is_finding = f })) (sym p.finds) (piece_told k before e is);
@@ -62,10 +63,10 @@ module _ {A : Type 0} (periods : List Period) (are : ArePeriods periods) (style 
 
     -- memory was wanted for it, or for a sender or a stream that is new
     pub piece_wanted : (refused : ℕ → C → F) (k : Kept) (before : List (ℕ × Event A)) (e : ℕ × Event A) → KeptBehind k before → WantsPiece periods style k e →
-        ShowsNew before e ⊎ ((written : Result (List ℕ × Bool) C) → (losses_text {C = C} how).of_item before e written → step_text_to refused (losses_text {C = C} how) e.0 written ≡ [] → ⊥)
+        ShowsNew before e ⊎ ((written : Result (List ℕ × Bool) C) → (losses_text {C = C} (manner periods style last)).of_item before e written → step_text_to refused (losses_text {A = A} {C = C} (manner periods style last)) e.0 written ≡ [] → ⊥)
     piece_wanted refused k before e is (inl new) = inl (shown_new periods are before k e (follows k before is) new)
     piece_wanted refused k before e is (inr some) = inr some_written
       where
-        some_written : (written : Result (List ℕ × Bool) C) → (losses_text {C = C} how).of_item before e written → step_text_to refused (losses_text {C = C} how) e.0 written ≡ [] → ⊥
+        some_written : (written : Result (List ℕ × Bool) C) → (losses_text {C = C} (manner periods style last)).of_item before e written → step_text_to refused (losses_text {A = A} {C = C} (manner periods style last)) e.0 written ≡ [] → ⊥
         some_written (Ok w) told none = some (ap (λ (x : ItemText). x.text) (piece_once k before e (record { text = w.0; is_finding = w.1 }) is told) ∙ none)
         some_written (Err why) told none = told

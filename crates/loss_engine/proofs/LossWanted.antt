@@ -8,11 +8,11 @@ use Rattle.list_core.specs.Items.{Numbered, put_item, put_items}
 use Rattle.engine_core.specs.declared.style.Style.{Style}
 use Rattle.engine_core.specs.EngineText.{ItemText}
 use Rattle.loss_core.proofs.Places.{get_middle}
-use Rattle.loss_engine.specs.LossWants.{ArePiecesOf, LossWants, ShowsNew, for_input, for_new, for_text}
+use Rattle.loss_engine.specs.LossText.{ShowsNew}
+use Rattle.loss_engine.specs.LossWants.{ArePiecesOf}
 use Rattle.loss_engine.specs.Sights.{Key, Sight, same_key}
 use Rattle.loss_core.specs.Periods.{ArePeriods, Period}
 use Rattle.loss_engine.specs.computed.Tracking.{Kept, Tracked, keep_all, kept_none, known_of, pieces_by, shows_new, sights_by}
-use Rattle.loss_engine.specs.computed.Wanting.{Wanting, by_input, by_new, by_text}
 use Rattle.loss_engine.proofs.LossLaws.{Follows, follows_all, pieces_sizes, pieces_tell_all, sights_there}
 
 -- ---- a key that is not tracked was not shown

@@ -16,18 +16,19 @@ use Rattle.list_core.proofs.Devices.{Appends-append, Appends-none, AppendsPrefix
 use Rattle.engine_core.specs.declared.ending.Ending.{Ending}
 use Rattle.engine_core.specs.declared.ending.Ending.TheVariants.{Done, Findings}
 use Rattle.engine_core.specs.declared.stopped.Halt.{Halt}
+use Rattle.engine_core.specs.declared.style.Style.{Style}
 use Rattle.engine_core.specs.declared.stopped.Halt.TheVariants as halt
-use Rattle.engine_core.specs.EngineText.{Allowed, AreAllowedTexts, ItemText, exactly, has_finding, joined_texts}
+use Rattle.engine_core.specs.EngineText.{AreAllowedTexts, ItemText, exactly, has_finding, joined_texts, step_text_to}
 use Rattle.engine_core.specs.Input.{Input, IsRead, TellsNext}
 use Rattle.engine_core.specs.RunOver.{EndsThere, HaltsAtEnd, HaltsThere, IsDue, Run, Stops, WantsFor, ending_by_halt, fault_by_halt, step_fault}
 use Rattle.engine_core.proofs.Ends.{split_at}
 use Rattle.engine_core.proofs.ItemTexts.{or_false}
 use Rattle.loss_core.specs.Periods.{ArePeriods, Period}
-use Rattle.loss_engine.specs.LossText.{Manner, losses_text}
+use Rattle.loss_engine.specs.LossText.{Manner, ShowsNew, losses_text}
 use Rattle.loss_engine.specs.LossWants.{ArePiecesOf, ArePiecesRead, KeepsBehind, LossWants, LossesAreTold, StandsBehind, WritesLosses, for_input, for_new, for_text, written_pieces}
 use Rattle.loss_engine.specs.computed.Tracking.{Kept, closings, keep, keep_all, kept_none, numbered_all, piece_by, pieces_by, pieces_of, pieces_onward}
 use Rattle.loss_engine.proofs.LossLaws.{losses_are, numbers_away, pieces_sizes, pieces_tell_all}
-use Rattle.loss_engine.proofs.LossSteps.{end_is, piece_once}
+use Rattle.loss_engine.proofs.LossSteps.{end_is, piece_once, piece_told}
 use Rattle.loss_engine.proofs.LossWanted.{are_pieces}
 use Rattle.loss_engine.proofs.LossesOnce.{event_once, same_items}
 
@@ -39,7 +40,7 @@ middle : {X : Type 0} (xs : List X) (x : X) (ys : List X) → slice_get (xs ++ x
 middle [] x ys = refl
 middle (y ∷ xs) x ys = middle xs x ys
 
-pieces_put : {A F : Type 0} (periods : List Period) (style : _) (n : ℕ) (k : Kept) (es : List (ℕ × Event A)) (onward : Numbered (Event A) F) →
+pieces_put : {A F : Type 0} (periods : List Period) (style : Style) (n : ℕ) (k : Kept) (es : List (ℕ × Event A)) (onward : Numbered (Event A) F) →
     pieces_onward periods style n k (put_items es onward) ≡ put_items (pieces_by periods style k es) (pieces_onward periods style n (keep_all periods k es) onward)
 pieces_put periods style n k [] onward = refl
 pieces_put periods style n k (e ∷ es) onward = ap (put_item (e.0, piece_by periods style k e)) (pieces_put periods style n (keep periods k e.1) es onward)
@@ -86,10 +87,10 @@ module _ {A C F : Type 0} (how : Manner F) (in_range : ArePeriods how.periods) (
   -- what was written of the events is the texts of their pieces
   texts_are : run.texts ≡ map text_of told
   texts_are = same_items run.texts (map text_of told) (run.are_texts.one_each ∙ sym as_many ∙ sym (length-map told text_of)) (λ i w v h g.
-  let e = there run.texts run.items run.are_texts.one_each i w h in
-  let p = there run.items told (sym as_many) i e.0 e.1 in
-  let same : p.0.1 ≡ v = same_Some (p.0.1) v (sym (slice_get-map text_of told i ∙ ap (option_map text_of) p.1) ∙ g) in
-  event_once how.periods how.style (take i run.items) e.0 w p.0.1 (run.are_texts.each i e.0 w e.1 h) (pieces_tell_all how.periods in_range how.style run.items i e.0 p.0 e.1 p.1).1 ∙ same)
+      let e = there run.texts run.items run.are_texts.one_each i w h in
+      let p = there run.items told (sym as_many) i e.0 e.1 in
+      let same : p.0.1 ≡ v = same_Some (p.0.1) v (sym (slice_get-map text_of told i ∙ ap (option_map text_of) p.1) ∙ g) in
+      event_once how.periods how.style (take i run.items) e.0 w p.0.1 (run.are_texts.each i e.0 w e.1 h) (pieces_tell_all how.periods in_range how.style run.items i e.0 p.0 e.1 p.1).1 ∙ same)
 
   -- pieces are written as they are
   written_so : (ps : List (ℕ × ItemText)) → AreAllowedTexts (exactly (written_pieces {C = C} how)) ps (map text_of ps)
@@ -314,6 +315,6 @@ module _ {A C F : Type 0} (how : Manner F) (in_range : ArePeriods how.periods) (
     | inr (inr e) ↦ halts_end e
   ]
 
-pub losses_told : {A C F : Type 0} → LossesAreTold A C F
-losses_told how input ending fault z read old new are (inl w) = inl (record { write_fault = w.write_fault; by_none = w.by_none; untouched = w.untouched; written = w.written })
-losses_told how input ending fault z read old new are (inr run) = inr (told_run how are input ending fault z read old new run)
+pub losses_told : {A C F : Type 0} (input : Input (Event A) C F) → LossesAreTold input
+losses_told input how ending fault z read old new are (inl w) = inl (record { write_fault = w.write_fault; by_none = w.by_none; untouched = w.untouched; written = w.written })
+losses_told input how ending fault z read old new are (inr run) = inr (told_run how are input ending fault z read old new run)

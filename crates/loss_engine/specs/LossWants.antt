@@ -56,8 +56,8 @@ pub record WritesLosses {A C F : Type 0} (how : Manner F) (input : Input (Event 
   pub are : AreLosses how.periods how.style (input.says z read) pieces
   pub run : Run (ArePiecesRead input z read pieces (LossWants how.periods how.style (KeepsBehind input z read) (input.says z read) pieces)) input.faults (exactly (written_pieces how)) ending fault old new
 
--- what a run leaves that tells losses in a manner, it writes piece by piece, where it began
-abbrev pub LossesAreTold : Type 0 → Type 0 → Type 0 → Type 0
-LossesAreTold A C F =
-    (how : Manner F) (input : Input (Event A) C F) (ending : Ending) (fault : Option F) (z : InputEnd) (read : List ℕ) (old new : Option (List ℕ)) → ArePeriods how.periods → Leaves input (losses_text how) ending fault z read old new →
+-- what a run leaves of this input that tells losses in a manner, it writes piece by piece, where it began
+abbrev pub LossesAreTold : {A C F : Type 0} → Input (Event A) C F → Type 0
+LossesAreTold {C = C} {F = F} input =
+    (how : Manner F) (ending : Ending) (fault : Option F) (z : InputEnd) (read : List ℕ) (old new : Option (List ℕ)) → ArePeriods how.periods → Leaves input (losses_text how) ending fault z read old new →
     FailsBefore (IsUntouched Open z read) (exactly (written_pieces {C = C} how)) ending fault old new ⊎ WritesLosses how input ending fault z read old new

@@ -9,7 +9,6 @@ ghost use Rattle.loss_engine.specs.LossText.{losses_text};
 ghost use Rattle.loss_engine.specs.computed.Held.{kept_by, periods_by};
 ghost use Rattle.loss_engine.specs.computed.Telling.{PutsPiece, WantsPiece};
 ghost use Rattle.loss_engine.specs.computed.Tracking.{keep_all, kept_none};
-ghost use Rattle.loss_engine.proofs.LossSteps.{losses_end};
 
 use crate::closing::put_closing;
 use crate::losses::Losses;
@@ -87,8 +86,6 @@ impl<A: Allocator + Copy, F: InputFault + LastLine + LastObject> Engine<A, F> fo
     ghost allows = { λ s. losses_text (record { periods = periods_by s.losses; style = s.style; last = fault_text F.last_line F.last_object }) };
 
     ghost stands = { λ s before. kept_by s.losses ≡ keep_all (periods_by s.losses) kept_none before };
-
-    ghost ends = { λ s items stands. losses_end (periods_by s.losses) s.losses.are_periods s.style items };
 
     #[inline(always)]
     fn put_item(

@@ -1,8 +1,9 @@
 -- A task over the events of a list, asked for without options, leaves what the call of its command over a list does. No clause cites it.
-use Rattle.std.proofs.Common.{Option, Some, None, Ok, Err, ◌≡◌, ℕ, Bool, false, List, [], ◌∷◌, inl, inr, ap, ap₂, sym, ◌∙◌, refl, subst}
+use Rattle.std.proofs.Common.{Option, Some, None, Ok, Err, ◌≡◌, ◌⊎◌, ℕ, Bool, false, List, [], ◌∷◌, inl, inr, ap, ap₂, sym, ◌∙◌, refl, subst}
 use Rattle.std.specs.Prelude.{option_map}
 use Rattle.std.specs.Global.{Global}
 use Rattle.list_core.specs.declared.device.InputEnd.{InputEnd}
+use Rattle.list_core.specs.declared.device.InputEnd.TheVariants.{Open}
 use Rattle.list_core.specs.declared.event.Event.{Event}
 use Rattle.list_core.specs.declared.event_lines.EventLines.TheVariants.{First}
 use Rattle.list_core.specs.declared.line_rules.ItemFault.{ItemFault}
@@ -12,13 +13,14 @@ use Rattle.list_core.specs.Items.{Numbered}
 use Rattle.list_core.specs.ReadItems.{AnswerOf}
 use Rattle.object_core.specs.declared.counted.Form.TheVariants.{Text as Lines}
 use Rattle.engine_core.specs.declared.ending.Ending.{Ending}
+use Rattle.engine_core.specs.declared.style.Style.{Style}
 use Rattle.engine_core.specs.declared.style.Style.TheVariants as styles
 use Rattle.engine_core.specs.EngineText.{Alike, Allowed, Text, exactly}
-use Rattle.engine_core.specs.EventsText.{EventAllows, EventText, exactly_event, over_events, over_in}
+use Rattle.engine_core.specs.EventsText.{EventAllows, EventText, FaultText, exactly_event, over_events, over_in}
 use Rattle.engine_core.specs.Input.{Input, IsRead}
 use Rattle.engine_core.specs.MadeRun.{answer_made, each_made, made, with_each}
 use Rattle.engine_core.specs.Run.{list_input}
-use Rattle.engine_core.specs.RunOver.{Leaves, OfKind}
+use Rattle.engine_core.specs.RunOver.{FailsBefore, IsUntouched, Leaves, OfKind}
 use Rattle.engine_core.proofs.EventSteps.{exactly_over}
 use Rattle.engine_core.proofs.ReaderRuns.{run_as, runs_alike}
 use Rattle.frame_engines.specs.CheckText.{check_event, check_text}
@@ -34,9 +36,12 @@ use Rattle.words_core.specs.declared.option_words.Writing.TheVariants as writes
 use Rattle.inventory_engine.proofs.Newest.{in_lines}
 use Rattle.exchange_engines.proofs.ListedReplays.{lines_are, lines_of, plainly_said}
 use Rattle.exchange_engines.proofs.WatchLemmas.{watch_lines}
+use Rattle.loss_core.specs.Periods.{ArePeriods, Period}
+use Rattle.loss_engine.specs.LossWants.{WritesLosses, written_pieces}
+use Rattle.loss_engine.proofs.LossesTold.{losses_told}
 use Rattle.task_engine.specs.declared.stop.Stop.{Stop}
-use Rattle.task_engine.specs.EventTasks.{Ended, plain_work}
-use Rattle.task_engine.specs.InputText.{InputTells, Tells, list_events, list_last, of_list, of_stop}
+use Rattle.task_engine.specs.EventTasks.{Ended, StopsBy, plain_work}
+use Rattle.task_engine.specs.InputText.{EventsTell, InputTells, Tells, list_events, list_last, of_list, of_stop}
 use Rattle.task_engine.specs.RequestText.{LeavesText, RequestWrites}
 use Rattle.task_engine.proofs.EventTaskLemmas.{input_told}
 use Rattle.unwrap_core.specs.UnwrapEvents.{unwrap_where}
@@ -152,3 +157,18 @@ as_before publish end told is_raw w = by_task publish end told w
 as_before (watch period id) end told is_raw w = by_task (watch period id) end told w
 as_before import end told is_raw w = by_task import end told w
 as_before (losses periods) end told is_raw w = by_task (losses periods) end told w
+
+-- what a task leaves that tells losses, of whatever input, it leaves piece by piece as it was said to
+pub losses_as_before : {C F : Type 0} (of : F → Stop) (style : Style) (periods : List Period) (input : Input (Event Global) C F) (last : FaultText F) (end : Ended) (told : Option Stop) → ArePeriods periods → EventsTell of style (plain_work (losses periods)) input last end told →
+    Tells (of_stop of) (StopsBy (λ fault.
+    FailsBefore (IsUntouched Open end.source end.read) (exactly (written_pieces {C = C} (record { periods = periods; style = style; last = last }))) end.ending fault end.old end.new
+    ⊎ WritesLosses (record { periods = periods; style = style; last = last }) input end.ending fault end.source end.read end.old end.new)) told
+losses_as_before of style periods input last end told are (why, l, is) = (
+  why,
+  record {
+    fault = l.fault;
+    by = l.by;
+    is_left = losses_told input (record { periods = periods; style = style; last = last }) end.ending l.fault end.source end.read end.old end.new are l.is_left.is_left;
+  },
+  is,
+)
