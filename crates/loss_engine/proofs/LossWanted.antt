@@ -1,19 +1,16 @@
 -- For what a run of `losses` wants memory, in the words of the definitions.
-use Rattle.std.proofs.Common.{Some, ◌≡◌, ◌||◌, ℕ, suc, Bool, true, false, not, is_some, List, [], ◌∷◌, ◌++◌, length, map, take, if◌then◌else◌, inl, inr, ap, refl, ◌∙◌, sym, subst}
+use Rattle.std.proofs.Common.{Some, ◌≡◌, ◌||◌, ℕ, suc, Bool, true, false, not, is_some, List, [], ◌∷◌, map, if◌then◌else◌, inl, inr, ap, refl, ◌∙◌, sym}
 use Rattle.std.specs.Prelude.{slice_get}
 use Rattle.std.specs.List.{list_any}
 use Rattle.std.proofs.lemmas.Bool.{false≢true, not-true, or_cases}
 use Rattle.list_core.specs.declared.event.Event.{Event}
-use Rattle.list_core.specs.Items.{Numbered, put_item, put_items}
 use Rattle.engine_core.specs.declared.style.Style.{Style}
-use Rattle.engine_core.specs.EngineText.{ItemText}
-use Rattle.loss_core.proofs.Places.{get_middle}
 use Rattle.loss_engine.specs.LossText.{ShowsNew}
 use Rattle.loss_engine.specs.LossWants.{ArePiecesOf}
 use Rattle.loss_engine.specs.Sights.{Key, Sight, same_key}
 use Rattle.loss_core.specs.Periods.{ArePeriods, Period}
-use Rattle.loss_engine.specs.computed.Tracking.{Kept, Tracked, keep_all, kept_none, known_of, pieces_by, shows_new, sights_by}
-use Rattle.loss_engine.proofs.LossLaws.{Follows, follows_all, pieces_sizes, pieces_tell_all, sights_there}
+use Rattle.loss_engine.specs.computed.Tracking.{Kept, Tracked, kept_none, known_of, pieces_by, shows_new, sights_by}
+use Rattle.loss_engine.proofs.LossLaws.{Follows, pieces_sizes, pieces_tell_all, sights_there}
 
 -- ---- a key that is not tracked was not shown
 

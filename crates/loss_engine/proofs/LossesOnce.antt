@@ -38,7 +38,7 @@ same_items (x ∷ xs) [] sizes h = absurd (omega arith)
 same_items (x ∷ xs) (y ∷ ys) sizes h = ap₂ (λ z l. z ∷ l) (h 0 x y refl refl) (same_items xs ys (omega arith) (λ i. h (suc i)))
 
 -- an item of another list at a position, where both have a length
-there : {X Y : Type 0} (xs : List X) (ys : List Y) → length xs ≡ length ys → (i : ℕ) (x : X) → slice_get xs i ≡ Some x → (y : Y) × (slice_get ys i ≡ Some y)
+pub there : {X Y : Type 0} (xs : List X) (ys : List Y) → length xs ≡ length ys → (i : ℕ) (x : X) → slice_get xs i ≡ Some x → (y : Y) × (slice_get ys i ≡ Some y)
 there xs ys sizes i x e = let lt : i < length xs = slice_get_within xs i x e in get_there ys i (omega arith)
 
 -- ---- events

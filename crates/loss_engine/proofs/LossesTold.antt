@@ -1,5 +1,5 @@
 -- What a run leaves that tells losses, it writes piece by piece: a piece for each event, and the lines at the end.
-use Rattle.std.proofs.Common.{Option, Some, None, Ok, Err, Result, ◌≡◌, ◌⊎◌, ◌≤◌, ◌+◌, ℕ, zero, suc, Bool, false, List, [], ◌∷◌, ◌++◌, length, map, take, drop, inl, inr, ap, ap₂, refl, ◌∙◌, sym, subst, arith}
+use Rattle.std.proofs.Common.{Option, Some, None, Ok, Err, Result, ◌≡◌, ◌⊎◌, ◌+◌, ℕ, suc, Bool, false, List, [], ◌∷◌, ◌++◌, length, map, take, drop, inl, inr, ap, ap₂, refl, ◌∙◌, sym, subst, arith}
 use Rattle.std.specs.Prelude.{◌||◌, if◌then◌else◌, option_map, slice_get}
 use Rattle.std.specs.Io.KnownBytes.{Appends}
 use Rattle.std.proofs.lemmas.List.{append_assoc, append-nil, length-append, length-map, map-append}
@@ -23,6 +23,7 @@ use Rattle.engine_core.specs.Input.{Input, IsRead, TellsNext}
 use Rattle.engine_core.specs.RunOver.{EndsThere, HaltsAtEnd, HaltsThere, IsDue, Run, Stops, WantsFor, ending_by_halt, fault_by_halt, step_fault}
 use Rattle.engine_core.proofs.Ends.{split_at}
 use Rattle.engine_core.proofs.ItemTexts.{or_false}
+use Rattle.loss_core.proofs.Places.{get_middle}
 use Rattle.loss_core.specs.Periods.{ArePeriods, Period}
 use Rattle.loss_engine.specs.LossText.{Manner, ShowsNew, losses_text}
 use Rattle.loss_engine.specs.LossWants.{ArePiecesOf, ArePiecesRead, KeepsBehind, LossWants, LossesAreTold, StandsBehind, WritesLosses, for_input, for_new, for_text, written_pieces}
@@ -30,15 +31,11 @@ use Rattle.loss_engine.specs.computed.Tracking.{Kept, closings, keep, keep_all, 
 use Rattle.loss_engine.proofs.LossLaws.{losses_are, numbers_away, pieces_sizes, pieces_tell_all}
 use Rattle.loss_engine.proofs.LossSteps.{end_is, piece_once, piece_told}
 use Rattle.loss_engine.proofs.LossWanted.{are_pieces}
-use Rattle.loss_engine.proofs.LossesOnce.{event_once, same_items}
+use Rattle.loss_engine.proofs.LossesOnce.{event_once, same_items, there}
 
 front_all : {X : Type 0} (xs ys : List X) → take (length xs) (xs ++ ys) ≡ xs
 front_all [] ys = refl
 front_all (x ∷ xs) ys = ap (λ l. x ∷ l) (front_all xs ys)
-
-middle : {X : Type 0} (xs : List X) (x : X) (ys : List X) → slice_get (xs ++ x ∷ ys) (length xs) ≡ Some x
-middle [] x ys = refl
-middle (y ∷ xs) x ys = middle xs x ys
 
 pieces_put : {A F : Type 0} (periods : List Period) (style : Style) (n : ℕ) (k : Kept) (es : List (ℕ × Event A)) (onward : Numbered (Event A) F) →
     pieces_onward periods style n k (put_items es onward) ≡ put_items (pieces_by periods style k es) (pieces_onward periods style n (keep_all periods k es) onward)
@@ -77,12 +74,6 @@ module _ {A C F : Type 0} (how : Manner F) (in_range : ArePeriods how.periods) (
 
   as_many : length told ≡ length run.items
   as_many = pieces_sizes how.periods in_range how.style run.items kept_none
-
-  there : {X Y : Type 0} (xs : List X) (ys : List Y) → length xs ≡ length ys → (i : ℕ) (x : X) → slice_get xs i ≡ Some x → (y : Y) × (slice_get ys i ≡ Some y)
-  there [] ys size i x h = absurd (cc)
-  there (a ∷ xs) [] size i x h = absurd (omega arith)
-  there (a ∷ xs) (b ∷ ys) size zero x h = (b, refl)
-  there (a ∷ xs) (b ∷ ys) size (suc i) x h = there xs ys (omega arith) i x h
 
   -- what was written of the events is the texts of their pieces
   texts_are : run.texts ≡ map text_of told
@@ -246,7 +237,7 @@ module _ {A C F : Type 0} (how : Manner F) (in_range : ArePeriods how.periods) (
         step_text refused r = step_text_to refused (losses_text {A = A} {C = C} how) e.0 r
 
     event_says : slice_get said.items (length (behind [])) ≡ Some e
-    event_says = ap (λ (n : ℕ). slice_get said.items n) size ∙ ap (λ (l : Numbered (Event A) F). slice_get l.items (length run.items)) (run.read.says ∙ ap (put_items run.items) next) ∙ middle run.items e others.items
+    event_says = ap (λ (n : ℕ). slice_get said.items n) size ∙ ap (λ (l : Numbered (Event A) F). slice_get l.items (length run.items)) (run.read.says ∙ ap (put_items run.items) next) ∙ get_middle run.items e others.items
 
     event_halts : (h : Halt F) → Stops (WantsFor input.faults.refused (losses_text {C = C} how) run.items (Ok (Some e))) (IsDue input.faults.refused (losses_text {C = C} how) run.items (Ok (Some e))) h run.held new → ending ≡ ending_by_halt input.faults.failed h → fault ≡ fault_by_halt h →
         WritesLosses how input ending fault z read old new

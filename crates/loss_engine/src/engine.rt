@@ -133,7 +133,8 @@ pub fn losses_over<
 ) -> Stopped<I, F>
     requires works { W.failed writer.old ≡ false }
     requires periods { ArePeriods periods.items }
-    ensures text { RunsOver (reader_of I.answers I.number F.refused F.failed) (losses_text (record { periods = periods.items; style = style; last = fault_text F.last_line F.last_object })) events result (W.contents writer.old) (W.contents writer.new) }
+    ensures text { RunsOver (reader_of I.answers I.number F.refused F.failed) (losses_text (record { periods = periods.items; style = style; last = fault_text F.last_line F.last_object }))
+        events result (W.contents writer.old) (W.contents writer.new) }
     ensures fault { W.failed writer.new ≡ is_write_fault result.ending }
 {
     let mut losing = Losing {

@@ -1,5 +1,5 @@
 -- What a task over a reader of events reads, and so leaves of what the reader looks at, and hands out beside.
-use Rattle.std.proofs.Common.{Option, Some, None, Ok, Err, Result, ◌≡◌, ℕ, Bool, List, inl, inr, ap, sym, ◌∙◌, refl, subst}
+use Rattle.std.proofs.Common.{Option, Some, None, Ok, Err, Result, ◌≡◌, ℕ, Bool, List, inl, inr, sym, refl, subst}
 use Rattle.std.specs.Prelude.{option_map}
 use Rattle.std.specs.Global.{Global}
 use Rattle.list_core.specs.declared.device.InputEnd.TheVariants.{Failed}

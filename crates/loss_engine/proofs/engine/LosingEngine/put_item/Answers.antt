@@ -1,4 +1,3 @@
-use Rattle.std.proofs.Common.{◌∙◌}
 use Rattle.engine_core.specs.EventsText.{fault_text}
 use Rattle.loss_engine.specs.computed.Held.{kept_by, periods_by}
 use Rattle.loss_engine.proofs.LossSteps.{piece_taken, piece_wanted}
