@@ -171,10 +171,10 @@ as_before r s t ending by z read old new (inr run) =
       written = run.written;
       line = line;
       ends = elim run.ends [
-        | inl e ↦
+        | inr (inl e) ↦
             let found : (has_finding run.texts || has_finding e.lines) ≡ has_finding run.texts = ap (λ (l : List ItemText). has_finding run.texts || has_finding l) e.may_end ∙ or_false (has_finding run.texts) in
             rw (e.has_ending, found, e.by_none) (ended t run.texts line run.held new (has_finding run.texts) refl (subst (λ o. TellsNext o (said_onward z line)) e.ended tells) (e.no_more e.may_end))
         | inr (inr e) ↦ some_line e.lines e.before e.line e.may_end e.is_line
-        | inr (inl e) ↦ rw (e.has_ending, e.by) (halted t run.texts line run.held new run.answer tells run.read.stands.is_of e.halt e.stops)
+        | inl e ↦ rw (e.has_ending, e.by) (halted t run.texts line run.held new run.answer tells run.read.stands.is_of e.halt e.stops)
       ];
     })

@@ -63,15 +63,4 @@ module _ {X C F : Type 0} (t : Allowed X C F) (items : List (ℕ × X)) (texts :
 
   -- the run stopped at the next
   pub closed_at : (failed : F → Bool) (h : Halt F) → LineWrites lines at (next.Stop h) mid new → HaltsAtEnd t items (Ok None) (ending_by_halt failed h) (fault_by_halt h) held new
-  closed_at failed h (w, is, stops, none) = record {
-    ended = refl;
-    lines = lines;
-    may_end = may;
-    before = at;
-    mid = mid;
-    written = p.written;
-    line = w;
-    is_line = is;
-    stops = subst (λ (o : Ending). StopsAtLine w.text o mid new) (by_none failed h none) stops;
-    by_none = none;
-  }
+  closed_at failed h (w, is, stops, none) = record { ended = refl; lines = lines; may_end = may; before = at; mid = mid; written = p.written; line = w; is_line = is; stops = subst (λ (o : Ending). StopsAtLine w.text o mid new) (by_none failed h none) stops; by_none = none }

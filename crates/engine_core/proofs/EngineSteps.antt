@@ -16,28 +16,10 @@ module _ {X C F : Type 0} (refused : ℕ → C → F) (t : Allowed X C F) (befor
 -- ---- engines that may write the same
 
 pub alike_self : {X C F : Type 0} (a : Allowed X C F) → Alike a a
-alike_self a = record {
-  first = refl;
-  there = λ before e written is. is;
-  back = λ before e written is. is;
-  keeps = λ before e is. is;
-  keeps_back = λ before e is. is;
-  ends = λ items lines is. is;
-  ends_back = λ items lines is. is;
-  last = λ f. refl;
-}
+alike_self a = record { first = refl; there = λ before e written is. is; back = λ before e written is. is; keeps = λ before e is. is; keeps_back = λ before e is. is; ends = λ items lines is. is; ends_back = λ items lines is. is; last = λ f. refl }
 
 pub alike_back : {X C F : Type 0} (a b : Allowed X C F) → Alike a b → Alike b a
-alike_back a b same = record {
-  first = sym same.first;
-  there = same.back;
-  back = same.there;
-  keeps = same.keeps_back;
-  keeps_back = same.keeps;
-  ends = same.ends_back;
-  ends_back = same.ends;
-  last = λ f. sym (same.last f);
-}
+alike_back a b same = record { first = sym same.first; there = same.back; back = same.there; keeps = same.keeps_back; keeps_back = same.keeps; ends = same.ends_back; ends_back = same.ends; last = λ f. sym (same.last f) }
 
 pub alike_then : {X C F : Type 0} (a b c : Allowed X C F) → Alike a b → Alike b c → Alike a c
 alike_then a b c p q = record {
@@ -84,18 +66,7 @@ pub closes_alike : {X C F : Type 0} (a b : Allowed X C F) → Alike a b → (ite
     EndsThere a items texts answer ending fault held new ⊎ HaltsAtEnd a items answer ending fault held new → EndsThere b items texts answer ending fault held new ⊎ HaltsAtEnd b items answer ending fault held new
 closes_alike a b same items texts answer ending fault held new (inl e) =
     inl (record { ended = e.ended; lines = e.lines; may_end = same.ends items e.lines e.may_end; has_ending = e.has_ending; by_none = e.by_none; written = e.written; no_more = e.no_more })
-closes_alike a b same items texts answer ending fault held new (inr e) = inr (record {
-  ended = e.ended;
-  lines = e.lines;
-  may_end = same.ends items e.lines e.may_end;
-  before = e.before;
-  mid = e.mid;
-  written = e.written;
-  line = e.line;
-  is_line = e.is_line;
-  stops = e.stops;
-  by_none = e.by_none;
-})
+closes_alike a b same items texts answer ending fault held new (inr e) = inr (record { ended = e.ended; lines = e.lines; may_end = same.ends items e.lines e.may_end; before = e.before; mid = e.mid; written = e.written; line = e.line; is_line = e.is_line; stops = e.stops; by_none = e.by_none })
 
 -- an item was written by both
 pub wrote_alike : {X C F : Type 0} (a b : Allowed X C F) → Alike a b → (before : List (ℕ × X)) (answer : AnswerOf X F) (stands : List (ℕ × X) → Type 0) (found : Bool) (old new : Option (List ℕ)) →

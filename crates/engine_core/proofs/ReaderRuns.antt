@@ -66,7 +66,7 @@ module _ {I X C F : Type 0} (reader : Reader I X C F) (t : Allowed X C F) where
       written = Appends-append old start mid t.first (joined_texts p.texts) first p.wrote;
       answer = Ok None;
       read = record { before = b; gave = p.gave; answered = q };
-      ends = elim x [ inl e ↦ inl e | inr e ↦ inr (inr e) ];
+      ends = inr x;
     })
 
     -- the run stopped
@@ -80,7 +80,7 @@ module _ {I X C F : Type 0} (reader : Reader I X C F) (t : Allowed X C F) where
       written = Appends-append old start mid t.first (joined_texts p.texts) first p.wrote;
       answer = answer;
       read = record { before = b; gave = p.gave; answered = q };
-      ends = inr (inl (record { halt = h; stops = x; has_ending = refl; by = refl }));
+      ends = inl (record { halt = h; stops = x; has_ending = refl; by = refl });
     })
 
   -- the first text was not written whole, and the reader is untouched
@@ -116,15 +116,10 @@ module _ {X C F : Type 0} {Untouched : Type 0} {IsReadSo : List (ℕ × X) → A
     answer = run.answer;
     read = run.read;
     ends = elim run.ends [
-      | inl e ↦ left (closes_alike a b same run.items run.texts run.answer ending fault run.held new (inl e))
-      | inr (inr e) ↦ left (closes_alike a b same run.items run.texts run.answer ending fault run.held new (inr e))
-      | inr (inl e) ↦ inr (inl (record { halt = e.halt; stops = stops_alike faults.refused a b same run.items run.answer e.halt run.held new e.stops; has_ending = e.has_ending; by = e.by }))
+      | inr e ↦ inr (closes_alike a b same run.items run.texts run.answer ending fault run.held new e)
+      | inl e ↦ inl (record { halt = e.halt; stops = stops_alike faults.refused a b same run.items run.answer e.halt run.held new e.stops; has_ending = e.has_ending; by = e.by })
     ];
   })
-    where
-      left : {P Q R : Type 0} → P ⊎ R → P ⊎ Q ⊎ R
-      left (inl p) = inl p
-      left (inr r) = inr (inr r)
 
 -- ---- a run that ends since its source failed
 
@@ -163,10 +158,10 @@ module _ {X C F : Type 0} (IsReadSo : List (ℕ × X) → AnswerOf X F → Type 
   pub failed_read : {Untouched : Type 0} (ending : Ending) (fault : Option F) (old new : Option (List ℕ)) → LeavesSo Untouched IsReadSo faults t ending fault old new → ending ≡ ReadFault → FailedRead
   failed_read ending fault old new (inl w) is = let e = w.write_fault in cc
   failed_read ending fault old new (inr run) is = elim run.ends [
-    | inl e ↦ absurd (whole_ending (has_finding run.texts || has_finding e.lines) (sym e.has_ending ∙ is))
+    | inr (inl e) ↦ absurd (whole_ending (has_finding run.texts || has_finding e.lines) (sym e.has_ending ∙ is))
     | inr (inr e) ↦ elim e.stops [
       | inl w ↦ let other = w.0 in cc
       | inr w ↦ let other = w.0 in cc
     ]
-    | inr (inl e) ↦ by_halt run.items run.answer run.read e.halt run.held new e.stops (sym e.has_ending ∙ is)
+    | inl e ↦ by_halt run.items run.answer run.read e.halt run.held new e.stops (sym e.has_ending ∙ is)
   ]

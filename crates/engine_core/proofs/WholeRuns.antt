@@ -249,9 +249,9 @@ module _ {X C F : Type 0} (faults : Faults C F) (t : Allowed X C F) (said : Numb
 
   run_whole : LeavesWholeText faults t ending said fault old new
   run_whole = elim run.ends [
-    | inl e ↦ subst (λ (o : Ending). LeavesWholeText faults t o said fault old new) (sym e.has_ending) (by_found e (has_finding run.texts || has_finding e.lines) refl)
+    | inr (inl e) ↦ subst (λ (o : Ending). LeavesWholeText faults t o said fault old new) (sym e.has_ending) (by_found e (has_finding run.texts || has_finding e.lines) refl)
     | inr (inr e) ↦ by_end_line e
-    | inr (inl e) ↦ subst (λ (o : Ending). LeavesWholeText faults t o said fault old new) (sym e.has_ending) (by_halt e.halt e.stops e.by)
+    | inl e ↦ subst (λ (o : Ending). LeavesWholeText faults t o said fault old new) (sym e.has_ending) (by_halt e.halt e.stops e.by)
   ]
 
 -- nothing of an input was written

@@ -116,7 +116,7 @@ pub record Run {X C F : Type 0} (IsReadSo : List (ℕ × X) → AnswerOf X F →
   pub written : Appends old held (t.first ++ joined_texts texts)
   pub answer : AnswerOf X F
   pub read : IsReadSo items answer
-  pub ends : EndsThere t items texts answer ending fault held new ⊎ HaltsThere faults t items answer ending fault held new ⊎ HaltsAtEnd t items answer ending fault held new
+  pub ends : HaltsThere faults t items answer ending fault held new ⊎ EndsThere t items texts answer ending fault held new ⊎ HaltsAtEnd t items answer ending fault held new
 
 -- a run that could not write its first text: the writer failed at a prefix of it, and what it reads is untouched
 pub record FailsBefore {X C F : Type 0} (Untouched : Type 0) (t : Allowed X C F) (ending : Ending) (fault : Option F) (old new : Option (List ℕ)) : Type 0 where

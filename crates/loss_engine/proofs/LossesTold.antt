@@ -85,10 +85,7 @@ module _ {A C F : Type 0} (how : Manner F) (in_range : ArePeriods how.periods) (
 
   -- pieces are written as they are
   written_so : (ps : List (ℕ × ItemText)) → AreAllowedTexts (exactly (written_pieces {C = C} how)) ps (map text_of ps)
-  written_so ps = record {
-    one_each = length-map ps text_of;
-    each = λ i p w h g. let same : p.1 ≡ w = same_Some (p.1) w (sym (slice_get-map text_of ps i ∙ ap (option_map text_of) h) ∙ g) in ap (λ (x : ItemText). Ok (x.text, x.is_finding)) same;
-  }
+  written_so ps = record { one_each = length-map ps text_of; each = λ i p w h g. let same : p.1 ≡ w = same_Some (p.1) w (sym (slice_get-map text_of ps i ∙ ap (option_map text_of) h) ∙ g) in ap (λ (x : ItemText). Ok (x.text, x.is_finding)) same }
 
   -- those of the events, and of the first lines at the end
   abbrev behind : List ItemText → List (ℕ × ItemText)
@@ -114,7 +111,7 @@ module _ {A C F : Type 0} (how : Manner F) (in_range : ArePeriods how.periods) (
       written = subst (λ (l : List ℕ). Appends old held l) (sym (joined_behind front)) (Appends-append old run.held held (joined_texts run.texts) (joined_texts front) run.written w);
       answer = answer;
       read = is_read;
-      ends = elim ends [ inl e ↦ inl e | inr e ↦ inr (inl e) ];
+      ends = elim ends [ inl e ↦ inr (inl e) | inr e ↦ inl e ];
     };
   }
 
@@ -142,12 +139,7 @@ module _ {A C F : Type 0} (how : Manner F) (in_range : ArePeriods how.periods) (
   stands_open = record { events = run.items; answer = run.answer; is_read = run.read; of_events = inl (sym as_many ∙ ap length (sym (append-nil told))) }
 
   stands_end : run.answer ≡ Ok None → (front : List ItemText) → StandsBehind input z read (behind front)
-  stands_end ended front = record {
-    events = run.items;
-    answer = run.answer;
-    is_read = run.read;
-    of_events = inr (ended, let one_each = as_many in let size = length-append told (numbered_all 0 front) in omega (arith, one_each, size));
-  }
+  stands_end ended front = record { events = run.items; answer = run.answer; is_read = run.read; of_events = inr (ended, let one_each = as_many in let size = length-append told (numbered_all 0 front) in omega (arith, one_each, size)) }
 
   -- ---- at the end
 
@@ -156,12 +148,7 @@ module _ {A C F : Type 0} (how : Manner F) (in_range : ArePeriods how.periods) (
       ((ending ≡ ending_by_halt input.faults.failed halt.WriteFault) × AppendsPrefix held new w.text) ⊎ ((ending ≡ ending_by_halt input.faults.failed halt.Memory) × (w.text ≡ [] → ⊥) × (new ≡ held)) → WritesLosses how input ending fault z read old new
   at_line ended over front rest w parts held wrote_front by (inl failed) = wrote front held wrote_front (Ok (Some (0, w)))
       (record { onward = left (w ∷ rest); says = says_end over front (w ∷ rest) parts; tells = (left rest, refl); stands = stands_end ended front; wants = λ none. cc })
-      (inr (record {
-        halt = halt.WriteFault;
-        stops = (w.text, None, record { written = Ok (w.text, w.is_finding); is_allowed = refl; has_text = refl; has_fault = refl }, failed.1);
-        has_ending = failed.0;
-        by = by;
-      }))
+      (inr (record { halt = halt.WriteFault; stops = (w.text, None, record { written = Ok (w.text, w.is_finding); is_allowed = refl; has_text = refl; has_fault = refl }, failed.1); has_ending = failed.0; by = by }))
   at_line ended over front rest w parts held wrote_front by (inr wanted) = wrote front held wrote_front (Err None)
       (record { onward = left (w ∷ rest); says = says_end over front (w ∷ rest) parts; tells = tt; stands = stands_end ended front; wants = λ none. for_text (0, w) (left rest) (says_end over front (w ∷ rest) parts) wanted.1 })
       (inr (record { halt = halt.Memory; stops = (inl refl, wanted.2); has_ending = wanted.0; by = by }))
@@ -175,15 +162,7 @@ module _ {A C F : Type 0} (how : Manner F) (in_range : ArePeriods how.periods) (
       let found : (has_finding run.texts || has_finding e.lines) ≡ (has_finding (run.texts ++ e.lines) || false) = sym (list_any-append (λ (w : ItemText). w.is_finding) run.texts e.lines) ∙ sym (or_false (has_finding (run.texts ++ e.lines))) in
       wrote e.lines new e.written (Ok None)
       (record { onward = left []; says = says_end (over_at e.ended) e.lines [] (same ∙ sym (append-nil e.lines)); tells = refl; stands = stands_end e.ended e.lines; wants = λ none. cc })
-      (inl (record {
-        ended = refl;
-        lines = [];
-        may_end = refl;
-        has_ending = e.has_ending ∙ ap (λ (f : Bool). if f then Findings else Done) found;
-        by_none = e.by_none;
-        written = Appends-none new;
-        no_more = λ none. refl;
-      }))
+      (inl (record { ended = refl; lines = []; may_end = refl; has_ending = e.has_ending ∙ ap (λ (f : Bool). if f then Findings else Done) found; by_none = e.by_none; written = Appends-none new; no_more = λ none. refl }))
 
   halts_end : HaltsAtEnd (losses_text {C = C} how) run.items run.answer ending fault run.held new → WritesLosses how input ending fault z read old new
   halts_end e =
@@ -301,8 +280,8 @@ module _ {A C F : Type 0} (how : Manner F) (in_range : ArePeriods how.periods) (
 
   pub told_run : WritesLosses how input ending fault z read old new
   told_run = elim run.ends [
-    | inl e ↦ at_end e
-    | inr (inl e) ↦ halts run.answer refl e
+    | inl e ↦ halts run.answer refl e
+    | inr (inl e) ↦ at_end e
     | inr (inr e) ↦ halts_end e
   ]
 

@@ -163,12 +163,5 @@ pub losses_as_before : {C F : Type 0} (of : F → Stop) (style : Style) (periods
     Tells (of_stop of) (StopsBy (λ fault.
     FailsBefore (IsUntouched Open end.source end.read) (exactly (written_pieces {C = C} (record { periods = periods; style = style; last = last }))) end.ending fault end.old end.new
     ⊎ WritesLosses (record { periods = periods; style = style; last = last }) input end.ending fault end.source end.read end.old end.new)) told
-losses_as_before of style periods input last end told are (why, l, is) = (
-  why,
-  record {
-    fault = l.fault;
-    by = l.by;
-    is_left = losses_told input (record { periods = periods; style = style; last = last }) end.ending l.fault end.source end.read end.old end.new are l.is_left.is_left;
-  },
-  is,
-)
+losses_as_before of style periods input last end told are (why, l, is) =
+    (why, record { fault = l.fault; by = l.by; is_left = losses_told input (record { periods = periods; style = style; last = last }) end.ending l.fault end.source end.read end.old end.new are l.is_left.is_left }, is)

@@ -45,8 +45,8 @@ module _ {X C F : Type 0} (faults : Faults C F) (t : Allowed X C F) (none : (bef
   -- the last answer of a run tells how the input stops, if all was read
   ran_all : {IsReadSo : List (ℕ × X) → AnswerOf X F → Type 0} (ending : Ending) (fault : Option F) (old new : Option (List ℕ)) (run : Run IsReadSo faults t ending fault old new) → ReadsAll ending → TellsStop run.answer
   ran_all ending fault old new run = elim run.ends [
-    | inl e ↦ λ r. subst (λ (a : AnswerOf X F). TellsStop a) (sym e.ended) tt
-    | inr (inl e) ↦ λ r. halted run.items run.answer e.halt run.held new e.stops (subst ReadsAll e.has_ending r)
+    | inr (inl e) ↦ λ r. subst (λ (a : AnswerOf X F). TellsStop a) (sym e.ended) tt
+    | inl e ↦ λ r. halted run.items run.answer e.halt run.held new e.stops (subst ReadsAll e.has_ending r)
     | inr (inr e) ↦ λ r. subst (λ (a : AnswerOf X F). TellsStop a) (sym e.ended) tt
   ]
 
@@ -56,12 +56,7 @@ module _ {I C F : Type 0} (reader : Reader I (Event Global) C F) (last : FaultTe
 
   reads_by : (fault : Option F) (asked : Asked) (it : Settles asked) → RunsOver reader (allowed_by style last asked it) start (stopped_at stopped.ending fault stopped.reader) old new → Either
   reads_by fault asked it (inl w) = inl w.untouched
-  reads_by fault asked it (inr run) = inr (record {
-    items = run.items;
-    answer = run.answer;
-    gave = run.read;
-    all = ran_all reader.faults (allowed_by style last asked it) (none_refused style last asked it) stopped.ending fault old new run;
-  })
+  reads_by fault asked it (inr run) = inr (record { items = run.items; answer = run.answer; gave = run.read; all = ran_all reader.faults (allowed_by style last asked it) (none_refused style last asked it) stopped.ending fault old new run })
 
   -- a task leaves its reader untouched, or reads
   pub reads : (work : Work) → OverWrites style work reader last start stopped old new → Either

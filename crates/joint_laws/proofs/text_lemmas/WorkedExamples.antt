@@ -181,7 +181,7 @@ run_to_a_fault = record {
       is_of = refl;
     };
   };
-  ends = inr (inl (record { halt = halt.Fault (fault.Line 2 LineForm); stops = (codes "2 list LineForm\n", (refl, refl), refl); has_ending = refl; by = refl }));
+  ends = inl (record { halt = halt.Fault (fault.Line 2 LineForm); stops = (codes "2 list LineForm\n", (refl, refl), refl); has_ending = refl; by = refl });
 }
   where
     each : (i : ℕ) (e : ℕ × Event (Unit {0})) (w : ItemText) → slice_get ((1, record { moment = 7000; kind = Clock }) ∷ []) i ≡ Some e → slice_get (shown_clock ∷ []) i ≡ Some w →
