@@ -32,7 +32,7 @@ use Rattle.exchange_engines.specs.ReplayText.{ReplayWritesTo}
 use Rattle.exchange_engines.specs.WatchText.{IsWatchText}
 use Rattle.words_core.specs.CommandLine.{Asked, check, import, list_blocks, losses, publish, replay, rewrite, show, watch}
 use Rattle.words_core.specs.declared.option_words.Options.{Options}
-use Rattle.words_core.specs.declared.option_words.Writing.TheVariants as writes
+use Rattle.words_core.proofs.Switches.{no_options}
 use Rattle.inventory_engine.proofs.Newest.{in_lines}
 use Rattle.exchange_engines.proofs.ListedReplays.{lines_are, lines_of, plainly_said}
 use Rattle.exchange_engines.proofs.WatchLemmas.{watch_lines}
@@ -41,16 +41,16 @@ use Rattle.loss_engine.specs.LossWants.{WritesLosses, written_pieces}
 use Rattle.loss_engine.proofs.LossesTold.{losses_told}
 use Rattle.task_engine.specs.declared.stop.Stop.{Stop}
 use Rattle.task_engine.specs.EventTasks.{Ended, StopsBy, plain_work}
-use Rattle.task_engine.specs.InputText.{EventsTell, InputTells, Tells, list_events, list_last, of_list, of_stop}
+use Rattle.task_engine.specs.InputText.{EventsTell, InputTells, Tells, changes_of, list_events, list_last, of_list, of_stop}
 use Rattle.task_engine.specs.RequestText.{LeavesText, RequestWrites}
 use Rattle.task_engine.proofs.EventTaskLemmas.{input_told}
-use Rattle.unwrap_core.specs.UnwrapEvents.{unwrap_where}
+use Rattle.unwrap_core.specs.UnwrapEvents.{change_event}
 
 -- ---- as it was said
 
 -- options of which none is given
 abbrev plain : Options
-plain = record { is_capture = false; skips_other = false; unwraps = false; is_raw = false; writes = writes.Lines; changes_alone = false; simulates = false }
+plain = no_options
 
 abbrev EventsLeft : Text (Event Global) ListCause → Ended → Option (ItemFault ListCause) → Type 0
 EventsLeft t end fault = LeavesText event_rules First t end fault
@@ -106,7 +106,7 @@ text_left : (end : Ended) (fault : Option (ItemFault ListCause)) (allows : Event
 text_left end fault allows t same w =
     let input : Input (Event Global) ListCause (ItemFault ListCause) = list_input event_rules First in
     let may : Allowed (Event Global) ListCause (ItemFault ListCause) = over_in (styles.Lines Lines) (λ form. allows) list_last in
-    runs_alike input.faults end.ending fault end.old end.new may (exactly t) same (left_same (unwrap_where false) (λ e. refl) input may end.ending fault end.source end.read end.old end.new w)
+    runs_alike input.faults end.ending fault end.old end.new may (exactly t) same (left_same (change_event (changes_of plain)) (λ e. refl) input may end.ending fault end.source end.read end.old end.new w)
 
 -- the same of a text that is fixed
 fixed_left : (end : Ended) (fault : Option (ItemFault ListCause)) (text : EventText Global) → Leaves (list_events plain) (over_in (styles.Lines Lines) (λ form. exactly_event text) list_last) end.ending fault end.source end.read end.old end.new →
@@ -147,7 +147,7 @@ by_task publish end told w = w
 by_task import end told w = w
 
 -- without options a task leaves what it was said to leave of a list
-pub as_before : (asked : Asked) (end : Ended) (told : Option Stop) (is_raw : Bool) → RequestWrites (record { is_capture = false; skips_other = false; unwraps = false; is_raw = is_raw; writes = writes.Lines; changes_alone = false; simulates = false }) asked end told → WroteBefore asked end told
+pub as_before : (asked : Asked) (end : Ended) (told : Option Stop) (is_raw : Bool) → RequestWrites (record no_options { is_raw = is_raw }) asked end told → WroteBefore asked end told
 as_before show end told is_raw w = by_task show end told w
 as_before check end told is_raw w = by_task check end told w
 as_before rewrite end told is_raw w = by_task rewrite end told w

@@ -10,7 +10,8 @@ use Rattle.list_core.specs.ListReader.{list_fault_of}
 use Rattle.capture_core.specs.declared.capture_fault.CaptureCause.{CaptureCause}
 use Rattle.capture_core.specs.declared.capture_fault.CaptureFault.{CaptureFault}
 use Rattle.frame_core.specs.SkipOther.{skip_other}
-use Rattle.unwrap_core.specs.UnwrapEvents.{unwrap_where}
+use Rattle.unwrap_core.specs.declared.unwrap.Changes.{Changes}
+use Rattle.unwrap_core.specs.UnwrapEvents.{change_event}
 use Rattle.text_core.specs.LineText.{capture_line, list_fault_line}
 use Rattle.object_core.specs.EventObject.{capture_fault_object, list_fault_object}
 use Rattle.engine_core.specs.declared.style.Style.{Style}
@@ -28,9 +29,13 @@ use Rattle.task_engine.specs.EventTasks.{Ended, TaskLeaves, Work, left_of}
 
 -- ---- the inputs
 
--- the events of an input, each frame unwrapped where options ask for that
+-- how options ask events to be changed
+abbrev pub changes_of : Options → Changes
+changes_of options = record { unwraps = options.unwraps }
+
+-- the events of an input, each changed as options ask for that: frames are unwrapped
 abbrev pub unwrapped : {C F : Type 0} → Options → Input (Event Global) C F → Input (Event Global) C F
-unwrapped options input = made (unwrap_where options.unwraps) input
+unwrapped options input = made (change_event (changes_of options)) input
 
 -- the same, and then, where frames of other protocols are passed over, what is left of each event
 abbrev pub looked_where : {C F : Type 0} → Bool → Options → Input (Event Global) C F → Input (Event Global) C F

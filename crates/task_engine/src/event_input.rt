@@ -5,12 +5,12 @@ ghost use Rattle.list_core.specs.EventLine.{event_rules};
 ghost use Rattle.list_core.specs.ItemReader.{AnswersItem, item_number, item_state};
 ghost use Rattle.capture_core.specs.PacketReader.{packet_state};
 ghost use Rattle.frame_core.specs.SkipOther.{beneath, passed_over};
-ghost use Rattle.unwrap_core.specs.UnwrapEvents.{under, unwrap_where};
+ghost use Rattle.unwrap_core.specs.UnwrapEvents.{change_event, under};
 ghost use Rattle.words_core.specs.declared.option_words.Options.{Options};
 ghost use Rattle.engine_core.specs.Input.{reader_of};
 ghost use Rattle.task_engine.specs.declared.stop.Stop.{Stop};
 ghost use Rattle.task_engine.specs.EventReader.{InputState, Look, LooksFrom, capture_look, capture_state, list_look, list_state, made_look, skipped_look};
-ghost use Rattle.task_engine.specs.InputText.{of_list};
+ghost use Rattle.task_engine.specs.InputText.{changes_of, of_list};
 
 use crate::stop::Stop;
 use crate::told::Told;
@@ -23,7 +23,7 @@ use object_core::LastObject;
 use std::alloc::Global;
 use tally_core::KindTally;
 use text_core::LastLine;
-use unwrap_core::Unwrap;
+use unwrap_core::{Changes, Unwrap};
 use words_core::Options;
 
 /// Reads the events of a list.
@@ -169,9 +169,18 @@ impl<R: Source> EventInput<R, CaptureFault> for PacketReader<R, Global> {
     }
 }
 
+// How options ask events to be changed.
+fn changes_of(options: Options) -> Changes
+    ensures { result ≡ changes_of options }
+{
+    Changes {
+        unwraps: options.unwraps,
+    }
+}
+
 impl<R: Source, F: InputFault + LastLine + LastObject + Drop, I: EventInput<R, F>> EventInput<R, F>
     for Unwrap<I> {
-    ghost look = { λ o. made_look (unwrap_where o.unwraps) (I.look o) };
+    ghost look = { λ o. made_look (change_event (changes_of o)) (I.look o) };
 
     ghost state = { λ s. I.state (under s) };
 
@@ -179,7 +188,7 @@ impl<R: Source, F: InputFault + LastLine + LastObject + Drop, I: EventInput<R, F
 
     #[inline(always)]
     fn begin(alloc: Global, options: Options, reader: R) -> Self {
-        Unwrap::new(I::begin(alloc, options, reader), options.unwraps)
+        Unwrap::new(I::begin(alloc, options, reader), changes_of(options))
     }
 
     fn told(&self, fault: F) -> Told {

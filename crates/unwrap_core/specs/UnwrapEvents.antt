@@ -1,10 +1,11 @@
--- Events of which each frame is looked at without what was put round it.
+-- Events of which each is changed as is asked for: its frame is looked at without what was put round it.
 use Rattle.std.specs.Prelude.{◌≡◌, ℕ, List, map, Bool, true, false, Some, None, Ok, Err}
 use Rattle.list_core.specs.declared.event.Event.{Event}
 use Rattle.list_core.specs.declared.event.EventKind.{EventKind}
 use Rattle.list_core.specs.declared.event.EventKind.TheVariants.{Frame, Clock, Mode}
 use Rattle.list_core.specs.ReadItems.{AnswerOf, Gave}
 use Rattle.unwrap_core.specs.Unwrapped.{unwrapped}
+use Rattle.unwrap_core.specs.declared.unwrap.Changes.{Changes}
 use Rattle.unwrap_core.specs.declared.unwrap.Unwrap.{Unwrap}
 
 -- what happened, a frame of it unwrapped
@@ -22,29 +23,33 @@ abbrev pub unwrap_where : {A : Type 0} → Bool → Event A → Event A
 unwrap_where true e = unwrap_event e
 unwrap_where false e = e
 
--- an answer, its event unwrapped where frames are
-abbrev pub unwrap_answer : {A F : Type 0} → Bool → AnswerOf (Event A) F → AnswerOf (Event A) F
-unwrap_answer unwraps (Ok None) = Ok None
-unwrap_answer unwraps (Ok (Some e)) = Ok (Some (e.0, unwrap_where unwraps e.1))
-unwrap_answer unwraps (Err f) = Err f
+-- an event, changed so; a further change is one more call here
+abbrev pub change_event : {A : Type 0} → Changes → Event A → Event A
+change_event changes e = unwrap_where changes.unwraps e
+
+-- an answer, its event changed so
+abbrev pub change_answer : {A F : Type 0} → Changes → AnswerOf (Event A) F → AnswerOf (Event A) F
+change_answer changes (Ok None) = Ok None
+change_answer changes (Ok (Some e)) = Ok (Some (e.0, change_event changes e.1))
+change_answer changes (Err f) = Err f
 
 -- the reader whose events they are
 abbrev pub under : {I : Type 0} → Unwrap I → I
 under s = s.items
 
--- The reader beneath gave an answer. This one is the same with its frame unwrapped, where frames are, and it stays so.
+-- The reader beneath gave an answer. This one is the same with its event changed, and the changes stay.
 pub record UnwrapsEach {I A F : Type 0} (answers : I → AnswerOf (Event A) F → I → Type 0) (old : Unwrap I) (answer : AnswerOf (Event A) F) (new : Unwrap I) : Type 0 where
   pub given : AnswerOf (Event A) F
   pub read : answers (under old) given (under new)
-  pub made : answer ≡ unwrap_answer old.unwraps given
-  pub stays : new.unwraps ≡ old.unwraps
+  pub made : answer ≡ change_answer old.changes given
+  pub stays : new.changes ≡ old.changes
 
--- an event with its number, unwrapped where frames are
-abbrev pub unwrap_numbered : {A : Type 0} → Bool → ℕ × Event A → ℕ × Event A
-unwrap_numbered unwraps e = (e.0, unwrap_where unwraps e.1)
+-- an event with its number, changed so
+abbrev pub change_numbered : {A : Type 0} → Changes → ℕ × Event A → ℕ × Event A
+change_numbered changes e = (e.0, change_event changes e.1)
 
--- What was answered one after another are the events that the reader beneath gave, unwrapped where frames are.
+-- What was answered one after another are the events that the reader beneath gave, changed.
 abbrev pub UnwrapsWhatCame : {I A F : Type 0} → (I → AnswerOf (Event A) F → I → Type 0) → Type 0
 UnwrapsWhatCame {I = I} {A = A} answers =
     (start end : Unwrap I) (es : List (ℕ × Event A)) → Gave (UnwrapsEach answers) start es end
-    → (given : List (ℕ × Event A)) × Gave answers (under start) given (under end) × (es ≡ map (unwrap_numbered start.unwraps) given) × (end.unwraps ≡ start.unwraps)
+    → (given : List (ℕ × Event A)) × Gave answers (under start) given (under end) × (es ≡ map (change_numbered start.changes) given) × (end.changes ≡ start.changes)

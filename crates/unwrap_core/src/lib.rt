@@ -7,5 +7,5 @@ mod tags;
 mod unwrap;
 mod unwrapping;
 
-pub use crate::unwrap::Unwrap;
+pub use crate::unwrap::{Changes, Unwrap};
 pub use crate::unwrapping::unwrap_frame;

@@ -1,7 +1,7 @@
-//! A reader of events over a reader of events, that unwraps each frame.
-ghost use Rattle.std.specs.Prelude.{◌≡◌, ℕ, false, true};
+//! A reader of events over a reader of events, that changes each as is asked for.
+ghost use Rattle.std.specs.Prelude.{◌≡◌, ℕ, false};
 ghost use Rattle.list_core.specs.ReadItems.{told_as};
-ghost use Rattle.unwrap_core.specs.UnwrapEvents.{UnwrapsEach, under, unwrap_answer, unwrap_event};
+ghost use Rattle.unwrap_core.specs.UnwrapEvents.{UnwrapsEach, change_answer, change_event, under, unwrap_event, unwrap_where};
 
 use crate::tags::tag_in;
 use crate::unwrapping::unwrap_frame;
@@ -9,11 +9,18 @@ use ber_core::Octets;
 use list_core::{Event, EventKind, ReadError, ReadItems};
 use std::alloc::Allocator;
 
-/// Reads the events of another reader, and unwraps each frame, where frames are unwrapped.
+/// How events are changed.
+#[derive(Clone, Copy)]
+pub struct Changes {
+    /// Each frame is unwrapped.
+    pub unwraps: bool,
+}
+
+/// Reads the events of another reader, and changes each.
 #[derive(Drop)]
 pub struct Unwrap<I> {
     items: I,
-    unwraps: bool,
+    changes: Changes,
 }
 
 // The event, its frame unwrapped.
@@ -47,41 +54,67 @@ fn is_wrapped<A: Allocator>(event: &Event<A>) -> bool
     }
 }
 
+// The event, its frame unwrapped where frames are.
+fn unwrap_where<A: Allocator>(unwraps: bool, event: Event<A>) -> Event<A>
+    ensures { result ≡ unwrap_where unwraps event }
+{
+    if unwraps { unwrap_event(event) } else { event }
+}
+
+// Whether an event is changed.
+#[inline(always)]
+fn is_changed<A: Allocator>(changes: Changes, event: &Event<A>) -> bool
+    ensures { result ≡ false → change_event changes event.now ≡ event.now }
+{
+    changes.unwraps && is_wrapped(event)
+}
+
+// The event, changed.
+fn change_event<A: Allocator>(changes: Changes, event: Event<A>) -> Event<A>
+    ensures { result ≡ change_event changes event }
+{
+    unwrap_where(changes.unwraps, event)
+}
+
 // Whether an answer has such an event.
 #[inline(always)]
-fn has_wrapped<A: Allocator, F>(answer: &Result<Option<Event<A>>, ReadError<F>>) -> bool
-    ensures { (n : ℕ) → result ≡ false → unwrap_answer true (told_as n answer.now) ≡ told_as n answer.now }
+fn has_changed<A: Allocator, F>(
+    changes: Changes,
+    answer: &Result<Option<Event<A>>, ReadError<F>>,
+) -> bool
+    ensures { (n : ℕ) → result ≡ false → change_answer changes (told_as n answer.now) ≡ told_as n answer.now }
 {
     match answer {
-        Ok(Some(event)) => is_wrapped(event),
+        Ok(Some(event)) => is_changed(changes, event),
         Ok(None) | Err(_) => false,
     }
 }
 
-// The answer, its event unwrapped.
+// The answer, its event changed.
 #[inline(always)]
-fn unwrap_answer<A: Allocator, F>(
+fn change_answer<A: Allocator, F>(
+    changes: Changes,
     answer: Result<Option<Event<A>>, ReadError<F>>,
 ) -> Result<Option<Event<A>>, ReadError<F>>
-    ensures { (n : ℕ) → told_as n result ≡ unwrap_answer true (told_as n answer) }
+    ensures { (n : ℕ) → told_as n result ≡ change_answer changes (told_as n answer) }
 {
-    if !has_wrapped(&answer) {
+    if !has_changed(changes, &answer) {
         return answer;
     }
     match answer {
-        Ok(Some(event)) => Ok(Some(unwrap_event(event))),
+        Ok(Some(event)) => Ok(Some(change_event(changes, event))),
         Ok(None) => Ok(None),
         Err(error) => Err(error),
     }
 }
 
 impl<I> Unwrap<I> {
-    /// A reader of the events of this one, that unwraps frames or does not.
-    pub fn new(items: I, unwraps: bool) -> Unwrap<I>
+    /// A reader of the events of this one, that changes them so.
+    pub fn new(items: I, changes: Changes) -> Unwrap<I>
         ensures beneath { under result ≡ items }
-        ensures unwraps { result.unwraps ≡ unwraps }
+        ensures changes { result.changes ≡ changes }
     {
-        Unwrap { items, unwraps }
+        Unwrap { items, changes }
     }
 
     /// The reader whose events they are.
@@ -95,7 +128,7 @@ impl<I> Unwrap<I> {
     pub fn into_beneath(self) -> I
         ensures { result ≡ under self }
     {
-        let Unwrap { items, unwraps: _ } = self;
+        let Unwrap { items, changes: _ } = self;
         items
     }
 }
@@ -117,10 +150,10 @@ impl<A: Allocator + Copy, I: ReadItems<A, Item = Event<A>>> ReadItems<A> for Unw
         alloc: A,
         spare: &mut Option<Event<A>>,
     ) -> Result<Option<Event<A>>, ReadError<I::Fault>> {
-        if !self.unwraps {
+        if !self.changes.unwraps {
             return self.items.read_item(alloc, spare);
         }
-        unwrap_answer(self.items.read_item(alloc, spare))
+        change_answer(self.changes, self.items.read_item(alloc, spare))
     }
 
     fn item_number(&self) -> u64 {

@@ -4,7 +4,7 @@ use crate::frame::list_reading::is_listed_as;
 use list_core::{Event, EventLines, ItemReader, ReadItems};
 use std::alloc::Global;
 use test_support::{NEVER, source_of};
-use unwrap_core::{Unwrap, unwrap_frame};
+use unwrap_core::{Changes, Unwrap, unwrap_frame};
 
 // The octets of a frame and of what is left of it: an HSR tag, one behind a VLAN tag, two VLAN tags, a provider's tag before a VLAN
 // tag and an HSR tag, one tag, none, an HSR tag that ends the frame, and a frame that is cut off before its EtherType.
@@ -127,7 +127,19 @@ fn gives<I: ReadItems<Global, Item = Event<Global>>>(
 #[test]
 fn a_reader_unwraps_frames_where_it_is_asked_to(rt: HostRuntime) {
     let events = ItemReader::new(source_of(LIST, 4096, NEVER), EventLines::First);
-    assert!(rt; gives(rt.alloc(), &mut Unwrap::new(events, true), &UNWRAPPED));
+    assert!(rt;
+        gives(
+            rt.alloc(),
+            &mut Unwrap::new(events, Changes { unwraps: true }),
+            &UNWRAPPED
+        )
+    );
     let events = ItemReader::new(source_of(LIST, 4096, NEVER), EventLines::First);
-    assert!(rt; gives(rt.alloc(), &mut Unwrap::new(events, false), &PLAIN));
+    assert!(rt;
+        gives(
+            rt.alloc(),
+            &mut Unwrap::new(events, Changes { unwraps: false }),
+            &PLAIN
+        )
+    );
 }
