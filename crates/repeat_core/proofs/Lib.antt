@@ -1,0 +1,10 @@
+mod NumberLaws
+mod MembersHere
+mod Truncated
+mod Joined
+mod AlikeParts
+mod Envelopes
+mod ShownAgain
+mod Walking
+mod WhatIsNoted
+mod FromSeen
