@@ -21,7 +21,6 @@ use engine_core::{Ending, EventEngine, Stopped, Style, run_events};
 use known_core::Runs;
 use list_core::{Event, EventLines, InputFault, ItemReader, ReadItems, Sink, Source};
 use object_core::{Form, Heading, LastObject};
-use repeat_core::FrameMemory;
 use std::alloc::{AllocError, Allocator};
 use text_core::LastLine;
 
@@ -29,7 +28,6 @@ use text_core::LastLine;
 #[derive(Drop)]
 struct Listing<A: Allocator> {
     alloc: A,
-    memory: FrameMemory<A>,
     known: Inventory<A>,
 }
 
@@ -53,14 +51,7 @@ impl<A: Allocator + Copy> EventEngine<A> for Listing<A> {
             number,
             moment: event.moment,
         };
-        put_event(
-            self.alloc,
-            &mut self.memory,
-            &mut self.known,
-            line,
-            heading,
-            &event.kind,
-        )?;
+        put_event(self.alloc, &mut self.known, line, heading, &event.kind)?;
         Ok(false)
     }
 }
@@ -110,7 +101,6 @@ pub fn blocks_over<
 {
     let listing = Listing {
         alloc,
-        memory: FrameMemory::new(alloc),
         known: Runs::new(alloc),
     };
     run_events(alloc, style, listing, events, writer)

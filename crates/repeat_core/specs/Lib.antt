@@ -1,5 +1,0 @@
-pub mod Noted
-pub mod Alike
-pub mod Standing
-pub mod Noting
-pub mod Again
