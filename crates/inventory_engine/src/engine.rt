@@ -21,6 +21,7 @@ use engine_core::{Ending, EventEngine, Stopped, Style, run_events};
 use known_core::Runs;
 use list_core::{Event, EventLines, InputFault, ItemReader, ReadItems, Sink, Source};
 use object_core::{Form, Heading, LastObject};
+use repeat_core::{FrameMemory, Nothing};
 use std::alloc::{AllocError, Allocator};
 use text_core::LastLine;
 
@@ -28,6 +29,7 @@ use text_core::LastLine;
 #[derive(Drop)]
 struct Listing<A: Allocator> {
     alloc: A,
+    memory: FrameMemory<A, Nothing>,
     known: Inventory<A>,
 }
 
@@ -51,7 +53,14 @@ impl<A: Allocator + Copy> EventEngine<A> for Listing<A> {
             number,
             moment: event.moment,
         };
-        put_event(self.alloc, &mut self.known, line, heading, &event.kind)?;
+        put_event(
+            self.alloc,
+            &mut self.memory,
+            &mut self.known,
+            line,
+            heading,
+            &event.kind,
+        )?;
         Ok(false)
     }
 }
@@ -101,6 +110,7 @@ pub fn blocks_over<
 {
     let listing = Listing {
         alloc,
+        memory: FrameMemory::new(alloc),
         known: Runs::new(alloc),
     };
     run_events(alloc, style, listing, events, writer)

@@ -15,11 +15,12 @@ use crate::inventory::{Inventory, Sought};
 use crate::listed_block::ListedBlock;
 use crate::sighting::put_event;
 use block_core::Block;
-use frame_core::{ApduView, view_frame};
+use frame_core::ApduView;
 use known_core::Runs;
 use list_core::{Event, EventKind, InputFault, ReadError, ReadItems};
 use object_core::{Form, Heading};
 use pdu_core::GooseView;
+use repeat_core::{FrameMemory, Nothing};
 use std::alloc::{AllocError, Allocator};
 
 /// The control blocks that were found in an input.
@@ -78,6 +79,7 @@ fn push_first<A: Allocator + Copy>(
 // Lists the control block that an event shows, where none is known by its key.
 fn push_shown<A: Allocator + Copy>(
     alloc: A,
+    memory: &mut FrameMemory<A, Nothing>,
     known: &Inventory<A>,
     found: &mut FoundBlocks<A>,
     kind: &EventKind<A>,
@@ -87,7 +89,7 @@ fn push_shown<A: Allocator + Copy>(
     let EventKind::Frame(octets) = kind else {
         return Ok(());
     };
-    match view_frame(octets.as_slice()) {
+    match memory.view(octets.as_slice()) {
         Err(_) => Ok(()),
         Ok(view) => match &view.apdu {
             ApduView::Goose(goose) => push_first(alloc, known, found, view.app_id, goose),
@@ -100,6 +102,7 @@ fn push_shown<A: Allocator + Copy>(
 // together by its own call, and left.
 fn note_event<A: Allocator + Copy>(
     alloc: A,
+    memory: &mut FrameMemory<A, Nothing>,
     known: &mut Inventory<A>,
     found: &mut FoundBlocks<A>,
     line: &mut Vec<u8, A>,
@@ -107,9 +110,9 @@ fn note_event<A: Allocator + Copy>(
 ) -> Result<(), AllocError>
     ensures { OnOk result (NotesSightings (sightings_of kind.now) known.old known.new found.old found.new) }
 {
-    push_shown(alloc, known, found, kind)?;
+    push_shown(alloc, memory, known, found, kind)?;
     line.clear();
-    put_event(alloc, known, line, HEADING, kind)
+    put_event(alloc, memory, known, line, HEADING, kind)
 }
 
 /// The control blocks that `blocks` lists of the events that a reader still gives: each as its first frame shows it, in the order
@@ -125,6 +128,7 @@ pub fn find_blocks<
 >(alloc: A, events: &mut I) -> Result<FoundBlocks<A>, AllocError>
     ensures { IfOk result (λ found. FindsOver (reader_of I.answers I.number F.refused F.failed) events.old events.new found.listed.items found.blocks.items) }
 {
+    let mut memory = FrameMemory::new(alloc);
     let mut known = Runs::new(alloc);
     let mut found = FoundBlocks {
         listed: Vec::new(alloc),
@@ -135,7 +139,14 @@ pub fn find_blocks<
     'answers: loop {
         match events.read_item(alloc, &mut spare) {
             Ok(Some(event)) => {
-                note_event(alloc, &mut known, &mut found, &mut line, &event.kind)?;
+                note_event(
+                    alloc,
+                    &mut memory,
+                    &mut known,
+                    &mut found,
+                    &mut line,
+                    &event.kind,
+                )?;
                 spare = Some(event);
             }
             Ok(None) => return Ok(found),

@@ -25,13 +25,14 @@ use crate::inventory::{Inventory, Sought, set_text};
 use crate::known::Known;
 use crate::pieces::{Piece, is_text, put_pieces, put_quoted_pieces, text_size};
 use crate::stream_text::{is_stream_text, stream_pieces};
-use frame_core::{ApduView, view_frame};
+use frame_core::ApduView;
 use known_core::Place;
 use list_core::EventKind;
 use object_core::event::put_event_head;
 use object_core::fields::put_field_octets;
 use object_core::{Counted, Form, Heading};
 use pdu_core::{AsduView, GooseView, SvView};
+use repeat_core::{FrameMemory, Nothing};
 use std::alloc::{AllocError, Allocator};
 use text_core::fields::{put_number, put_text, put_text_or};
 use text_core::pieces::put_decimal;
@@ -380,9 +381,10 @@ fn put_streams<A: Allocator + Copy>(
     Ok(())
 }
 
-/// Appends what is written of an event.
+/// Appends what is written of an event, whose frame is viewed through a memory of frames.
 pub fn put_event<A: Allocator + Copy>(
     alloc: A,
+    memory: &mut FrameMemory<A, Nothing>,
     known: &mut Inventory<A>,
     line: &mut Vec<u8, A>,
     heading: Heading,
@@ -395,7 +397,7 @@ pub fn put_event<A: Allocator + Copy>(
     let EventKind::Frame(octets) = kind else {
         return Ok(());
     };
-    match view_frame(octets.as_slice()) {
+    match memory.view(octets.as_slice()) {
         Err(_) => Ok(()),
         Ok(view) => match &view.apdu {
             ApduView::Goose(goose) => put_block(alloc, known, line, heading, view.app_id, goose),

@@ -18,6 +18,7 @@ use engine_core::{Engine, Stopped, Style, put_dated, put_fault_in, run_on};
 use list_core::{Event, InputFault, ReadError, ReadItems, Sink};
 use loss_core::StreamPeriod;
 use object_core::{Form, Heading, LastObject};
+use repeat_core::{FrameMemory, Nothing};
 use std::alloc::{AllocError, Allocator};
 use text_core::LastLine;
 
@@ -25,6 +26,7 @@ use text_core::LastLine;
 #[derive(Drop)]
 struct Losing<A: Allocator> {
     alloc: A,
+    memory: FrameMemory<A, Nothing>,
     losses: Losses<A>,
     style: Style,
     // What is told of an event before its dates: its memory is used again for the next.
@@ -56,6 +58,7 @@ impl<A: Allocator + Copy> Losing<A> {
                 };
                 put_event(
                     self.alloc,
+                    &mut self.memory,
                     &mut self.losses,
                     line,
                     heading,
@@ -70,9 +73,18 @@ impl<A: Allocator + Copy> Losing<A> {
                     number,
                     moment: event.moment,
                 };
+                let memory = &mut self.memory;
                 let undated = &mut self.undated;
                 let losses = &mut self.losses;
-                let found = put_event(self.alloc, losses, undated, heading, back, &event.kind)?;
+                let found = put_event(
+                    self.alloc,
+                    memory,
+                    losses,
+                    undated,
+                    heading,
+                    back,
+                    &event.kind,
+                )?;
                 put_dated(line, event.moment, self.undated.as_slice())?;
                 Ok(found)
             }
@@ -139,6 +151,7 @@ pub fn losses_over<
 {
     let mut losing = Losing {
         alloc,
+        memory: FrameMemory::new(alloc),
         losses: Losses::new(alloc, periods),
         style,
         undated: Vec::new(alloc),

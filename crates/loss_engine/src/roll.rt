@@ -27,12 +27,20 @@ impl<A: Allocator> Probe<Entry<A>> for Key<'_> {
     }
 }
 
+// How many positions are guessed at: a key has one by a number of one octet. Where very many came none is, as another of the same
+// number then comes between.
+const GUESSES: usize = 256;
+
+const FEW: usize = 4096;
+
 /// Senders and streams in the order of their first occurrence.
 #[derive(Drop)]
 pub struct Roll<A: Allocator> {
     entries: Vec<Entry<A>, A>,
     positions: Runs<usize, A>,
     last: usize,
+    // Where the one came last whose key has this number: a wrong guess costs a comparison.
+    guesses: [usize; GUESSES],
 }
 
 impl<A: Allocator> Model for Roll<A> {
@@ -49,6 +57,23 @@ impl<A: Allocator> Model for Roll<A> {
     ghost invariant = { λ r. AreInOrder key_cmp entry_key r.entries.items r.positions };
 }
 
+// The number of a key. Control blocks and streams of one network mostly differ in APPID, and else in what their names end with.
+#[inline(always)]
+fn number_of(key: Key<'_>) -> u8 {
+    let (app_id, name) = match key {
+        Key::Sender(sender) => (sender.app_id, sender.reference),
+        Key::Stream(stream) => (stream.app_id, stream.id),
+    };
+    let last = name.last().copied().unwrap_or(0);
+    ((app_id % 256) as u8).wrapping_add(last)
+}
+
+// Where the one came last whose key has the number of this one.
+#[inline(always)]
+fn guess_of(guesses: &[usize; GUESSES], key: Key<'_>) -> usize {
+    guesses[number_of(key) as usize]
+}
+
 // Whether the one at a position has a key.
 fn has_at<A: Allocator>(entries: &[Entry<A>], at: usize, key: Key<'_>) -> bool
     ensures { IsTrue result → HasKeyAt entries.now (key_said key.entry) at }
@@ -57,6 +82,13 @@ fn has_at<A: Allocator>(entries: &[Entry<A>], at: usize, key: Key<'_>) -> bool
         Some(entry) => entry.is_of(key),
         None => false,
     }
+}
+
+// Whether the one at a position that is guessed at has a key.
+fn has_guessed<A: Allocator>(entries: &[Entry<A>], guess: usize, key: Key<'_>) -> bool
+    ensures { IsTrue result → HasKeyAt entries.now (key_said key.entry) guess }
+{
+    entries.len() <= FEW && has_at(entries, guess, key)
 }
 
 // Whether the one at a position is the stream with a key.
@@ -79,6 +111,7 @@ impl<A: Allocator + Copy> Roll<A> {
             entries: Vec::new(alloc),
             positions: Runs::new(alloc),
             last: 0,
+            guesses: [0; GUESSES],
         }
     }
 
@@ -107,8 +140,8 @@ impl<A: Allocator + Copy> Roll<A> {
         }
     }
 
-    /// The position of the one with a key. That which came last is tried first, and then the one behind it: streams often come
-    /// in turns that stay.
+    /// The position of the one with a key. That which came last is tried first, then the one behind it, since streams often come in
+    /// turns that stay, and then where one with the number of this key came last.
     #[inline(never)]
     pub fn position_of(&self, key: Key<'_>) -> Option<usize>
         ensures { Finds self.now (key_said key.entry) result }
@@ -119,6 +152,10 @@ impl<A: Allocator + Copy> Roll<A> {
         let next = self.behind_last();
         if has_at(self.entries.as_slice(), next, key) {
             return Some(next);
+        }
+        let guess = guess_of(&self.guesses, key);
+        if has_guessed(self.entries.as_slice(), guess, key) {
+            return Some(guess);
         }
         match find_position(&self.positions, self.entries.as_slice(), &key) {
             Ok(at) => Some(at),
@@ -144,6 +181,7 @@ impl<A: Allocator + Copy> Roll<A> {
         ensures pushed { OnOk result (self.new ≡ self.old ++ tracked_by entry ∷ []) }
         ensures kept { OnErr result (self.new ≡ self.old) }
     {
+        let number = number_of(entry.key());
         let found = find_position(&self.positions, self.entries.as_slice(), &entry.key());
         let Err(place) = found else {
             return Ok(());
@@ -153,6 +191,7 @@ impl<A: Allocator + Copy> Roll<A> {
         self.positions.insert(alloc, place, at)?;
         self.entries.push_reserved(entry);
         self.last = at;
+        self.guesses[number as usize] = at;
         Ok(())
     }
 
@@ -163,6 +202,8 @@ impl<A: Allocator + Copy> Roll<A> {
         ensures kept { (key : SpecKey) (first : Known) → IsFirstAt self.old key at → self.new ≡ with_progress self.old key first (more_frames frame) }
     {
         self.last = at;
+        let number = number_of(self.entries[at].key());
+        self.guesses[number as usize] = at;
         self.entries[at].progress.take_frame(frame)
     }
 
@@ -179,6 +220,8 @@ impl<A: Allocator + Copy> Roll<A> {
         ensures known { (key : SpecKey) → IsFirstAt self.old key at → IsSome (known_of self.old key) }
     {
         self.last = at;
+        let number = number_of(self.entries[at].key());
+        self.guesses[number as usize] = at;
         self.entries[at].progress.take_sample(sample, synch)
     }
 }

@@ -10,11 +10,12 @@ ghost use Rattle.loss_engine.specs.computed.Telling.{TellsAll, TellsSights, Want
 use crate::key::{Key, SenderKey, StreamKey};
 use crate::losses::Losses;
 use crate::texts::told::{put_back, put_frame, put_sample};
-use frame_core::{ApduView, view_frame};
+use frame_core::ApduView;
 use list_core::EventKind;
 use loss_core::Pair;
 use object_core::Heading;
 use pdu_core::{AsduView, GooseView, SvView};
+use repeat_core::{FrameMemory, Nothing};
 use std::alloc::{AllocError, Allocator};
 
 // Appends what a frame of GOOSE tells, and answers whether it is a loss.
@@ -102,6 +103,7 @@ fn put_asdus<A: Allocator + Copy>(
 // for a sender or a stream that is new, and for what is told.
 fn put_frame_of<A: Allocator + Copy>(
     alloc: A,
+    memory: &mut FrameMemory<A, Nothing>,
     losses: &mut Losses<A>,
     out: &mut Vec<u8, A>,
     heading: Heading,
@@ -115,7 +117,7 @@ fn put_frame_of<A: Allocator + Copy>(
     let EventKind::Frame(octets) = kind else {
         return Ok(false);
     };
-    match view_frame(octets.as_slice()) {
+    match memory.view(octets.as_slice()) {
         Err(_) => Ok(false),
         Ok(view) => match &view.apdu {
             ApduView::Goose(goose) => put_goose(alloc, losses, out, heading, view.app_id, goose),
@@ -132,10 +134,12 @@ fn put_frame_of<A: Allocator + Copy>(
     }
 }
 
-/// Appends what an event tells: that time goes back by so much, where it does, and what its frame tells. Answers whether it is a
+/// Appends what an event tells: that time goes back by so much, where it does, and what its frame tells, which is viewed through a
+/// memory of frames. Answers whether it is a
 /// finding. Memory is wanted for a sender or a stream that is new, and for what is told.
 pub fn put_event<A: Allocator + Copy>(
     alloc: A,
+    memory: &mut FrameMemory<A, Nothing>,
     losses: &mut Losses<A>,
     out: &mut Vec<u8, A>,
     heading: Heading,
@@ -148,6 +152,6 @@ pub fn put_event<A: Allocator + Copy>(
     ensures kept { take (length out.old.items) out.new.items ≡ out.old.items }
 {
     put_back(out, heading, back)?;
-    let found = put_frame_of(alloc, losses, out, heading, kind)?;
+    let found = put_frame_of(alloc, memory, losses, out, heading, kind)?;
     Ok(back.is_some() || found)
 }

@@ -16,9 +16,9 @@ use Rattle.loss_engine.proofs.roll.Roll.push.Goals as goal
 
 pub returns-in_default-clause-pushed : goal.returns-in_default-clause-pushed
 returns-in_default-clause-pushed g c =
-    let key = key_said c.key.result in
+    let key = key_said c.key-2.result in
     let there = subst (λ (l : List (Entry g.row.A.Denot)). IsAt (λ one. key_cmp (entry_key one) key) l c.in_default.field-0) c.as_slice.ensures.value c.in_default.ensures in
-    absurd (one_known c.self.inside.entries.items (entry_key c.args.entry) c.in_default.field-0 there.within (λ d. key_exact _ _ (there.is d) ∙ c.key.ensures)
+    absurd (one_known c.self.inside.entries.items (entry_key c.args.entry) c.in_default.field-0 there.within (λ d. key_exact _ _ (there.is d) ∙ c.key-2.ensures)
     (ap (λ (l : List Tracked). known_of l (entry_key c.args.entry)) c.self.view_is ∙ c.requires))
 
 pub invariant_of-self-in_err-insert : goal.invariant_of-self-in_err-insert
@@ -28,7 +28,7 @@ invariant_of-self-in_err-insert g c =
 
 pub invariant_of-self-2 : goal.invariant_of-self-2
 invariant_of-self-2 g c =
-    let key = key_said c.key.result in
+    let key = key_said c.key-2.result in
     let es = c.self.inside.entries.items in
     let positions = c.self.inside.positions in
     let place = c.in-Err.place in
@@ -37,7 +37,7 @@ invariant_of-self-2 g c =
     let size : c.len-at.result ≡ length es = c.len-at.ensures ∙ c.reserve.new.self.ok.0 ∙ ap length c.in_ok-reserve.ensures.items in
     subst (λ (l : List (Entry g.row.A.Denot)). AreInOrder key_cmp entry_key l c.insert.new.self)
     (sym (c.push_reserved.ensures.items ∙ ap (λ (l : List (Entry g.row.A.Denot)). l ++ c.args.entry ∷ []) c.in_ok-reserve.ensures.items))
-    (one_indexed key_cmp key_total entry_key es positions c.self.invariant c.insert.new.self place key c.args.entry (sym c.key.ensures) gap
+    (one_indexed key_cmp key_total entry_key es positions c.self.invariant c.insert.new.self place key c.args.entry (sym c.key-2.ensures) gap
     (subst (λ (n : ℕ). PutsOne positions c.insert.new.self place n) size c.in_ok-insert.ensures.put))
 
 pub returns-clause-pushed : goal.returns-clause-pushed

@@ -1,0 +1,10 @@
+pub mod Noted
+pub mod Numbered
+pub mod Alike
+pub mod Standing
+pub mod Noting
+pub mod WrittenAround
+pub mod Again
+pub mod OtherForm
+pub mod Beside
+pub mod computed

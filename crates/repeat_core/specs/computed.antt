@@ -1,0 +1,3 @@
+-- Functions that proofs compute with, tests of what relations state, and what private fields keep to. A clause or a law
+-- ties each to the definitions beside this folder, so nobody has to believe it.
+pub mod OtherFormOnce
