@@ -24,14 +24,16 @@ use crate::deadlines::Deadlines;
 use crate::entry::Entry;
 use crate::fault::SubscribeFault;
 use crate::flagged::Flagged;
+use crate::guesses::Guesses;
 use crate::matching::{Received, first_reason, is_other_kind};
 use crate::names::{self, Name};
 use crate::registers::{LiveState, Register};
 use crate::rows::{Reach, Rows};
 use crate::twice::{fault_of, first_twice_of_few};
 use block_core::Block;
-use frame_core::{ApduView, view_frame};
+use frame_core::ApduView;
 use list_core::{Event, EventKind};
+use repeat_core::{FrameMemory, Nothing};
 use std::alloc::{AllocError, Allocator};
 use std::marker::Model;
 
@@ -43,6 +45,7 @@ pub struct Keeper<A: Allocator> {
     names: Vec<Name<A>, A>,
     deadlines: Deadlines<A>,
     flagged: Flagged<A>,
+    guesses: Guesses,
     mode: bool,
     moment: u64,
     looks: u64,
@@ -111,6 +114,7 @@ impl<A: Allocator + Copy> Keeper<A> {
             names,
             deadlines,
             flagged: Flagged::new(alloc),
+            guesses: Guesses::new(),
             mode: false,
             moment: 0,
             looks: 0,
@@ -139,12 +143,14 @@ impl<A: Allocator + Copy> Keeper<A> {
     }
 
     // The position of the frame's block.
-    fn position_of(&self, frame: &Received<'_>) -> Option<usize>
-        ensures found { result ≡ position (is_of (received_frame frame.now)) self.now.state.blocks }
-        ensures sizes { length self.now.state.registers ≡ length self.now.state.blocks }
-        ensures apart { AreApart self.now.state.blocks }
+    fn position_of(&mut self, frame: &Received<'_>) -> Option<usize>
+        ensures found { result ≡ position (is_of (received_frame frame.now)) self.old.state.blocks }
+        ensures sizes { length self.old.state.registers ≡ length self.old.state.blocks }
+        ensures apart { AreApart self.old.state.blocks }
+        ensures unchanged { self.new ≡ self.old }
     {
-        names::position_named(&self.names, frame.app_id, frame.goose.gocb_ref)
+        let guesses = &mut self.guesses;
+        names::position_named(&self.names, guesses, frame.app_id, frame.goose.gocb_ref)
     }
 
     // Reaches for the block at a position.
@@ -287,9 +293,10 @@ impl<A: Allocator + Copy> Keeper<A> {
         }
     }
 
-    // Takes the octets of a frame, which may be faulty.
+    // Takes the octets of a frame, which may be faulty, and is seen through a memory of frames.
     fn take_octets(
         &mut self,
+        memory: &mut FrameMemory<A, Nothing>,
         now: u64,
         octets: &[u8],
         entries: &mut Vec<Entry<A>, A>,
@@ -310,7 +317,7 @@ impl<A: Allocator + Copy> Keeper<A> {
             ++ said_of now self.old.state.mode self.old.state.blocks self.old.state.registers (content_by (frame_at octets.now))) ≡ [] → length entries.old.items < vec_capacity entries.old → IsOk result }
     {
         self.know_sizes();
-        match view_frame(octets) {
+        match memory.view(octets) {
             Err(fault) => {
                 entries.push(Entry::Faulty(fault))?;
                 Ok(())
@@ -399,6 +406,7 @@ impl<A: Allocator + Copy> Keeper<A> {
     // Takes what happened: the entries after the expiries, and what the blocks then hold.
     fn take_kind(
         &mut self,
+        memory: &mut FrameMemory<A, Nothing>,
         now: u64,
         kind: &EventKind<A>,
         entries: &mut Vec<Entry<A>, A>,
@@ -420,7 +428,7 @@ impl<A: Allocator + Copy> Keeper<A> {
     {
         self.know_sizes();
         match kind {
-            EventKind::Frame(octets) => self.take_octets(now, octets.as_slice(), entries),
+            EventKind::Frame(octets) => self.take_octets(memory, now, octets.as_slice(), entries),
             EventKind::Clock => Ok(()),
             EventKind::Mode(on) => self.take_mode(*on, entries),
         }
@@ -429,6 +437,7 @@ impl<A: Allocator + Copy> Keeper<A> {
     // Takes one event, by what is kept, and appends its entries.
     fn take_counted(
         &mut self,
+        memory: &mut FrameMemory<A, Nothing>,
         event: &Event<A>,
         entries: &mut Vec<Entry<A>, A>,
     ) -> Result<(), AllocError>
@@ -444,17 +453,18 @@ impl<A: Allocator + Copy> Keeper<A> {
     {
         let now = self.moment.max(event.moment);
         self.list_expired(now, entries)?;
-        self.take_kind(now, &event.kind, entries)?;
+        self.take_kind(memory, now, &event.kind, entries)?;
         self.expire(now);
         self.moment = now;
         Ok(())
     }
 
-    // Takes one event, by what is kept, and has a list be its entries.
+    // Takes one event, by what is kept, and has a list be its entries. What the memory of frames holds changes no answer.
     //
     // What `looks` then answers is by how much the count of all reaches grew.
     pub(crate) fn step(
         &mut self,
+        memory: &mut FrameMemory<A, Nothing>,
         event: &Event<A>,
         entries: &mut Vec<Entry<A>, A>,
     ) -> Result<(), AllocError>
@@ -471,7 +481,7 @@ impl<A: Allocator + Copy> Keeper<A> {
     {
         let before = self.rows.reaches();
         entries.clear();
-        self.take_counted(event, entries)?;
+        self.take_counted(memory, event, entries)?;
         self.looks = self.rows.reaches().saturating_sub(before); // the count of all reaches never falls
         Ok(())
     }

@@ -6,6 +6,7 @@ mod deadlines;
 mod entry;
 mod fault;
 mod flagged;
+mod guesses;
 mod keeping;
 pub mod laws;
 mod matching;

@@ -1,11 +1,12 @@
 //! The names of the blocks in order, by which a frame's block is found, and a block that is given twice.
 
-ghost use Rattle.std.specs.Prelude.{◌≡◌, ◌<◌, ◌↔◌, [], List, IfOk, IsOk, IsTrue, MatchOption, length};
+ghost use Rattle.std.specs.Prelude.{◌≡◌, ◌<◌, ◌↔◌, [], List, IfOk, IfSome, IsOk, IsTrue, MatchOption, length};
 ghost use Rattle.std.specs.List.{All};
 ghost use Rattle.block_core.specs.declared.block.Block.{Block as SpecBlock};
 ghost use Rattle.subscribe_core.specs.Apart.{AreApart, IsFirstTwice};
 ghost use Rattle.subscribe_core.specs.computed.Names.{key_cmp, key_of, place_cmp, place_of, lesser_of, AreSorted, ArePlaced, IsLeastAgain, HasName, AreNamesOf};
 
+use crate::guesses::Guesses;
 use block_core::Block;
 use mms_data::Octets;
 use std::alloc::{AllocError, Allocator};
@@ -110,9 +111,34 @@ pub(crate) fn first_twice<A: Allocator>(names: &[Name<A>]) -> Option<usize>
     least_again(names)
 }
 
-// The position of the block with this name.
+// Whether a name has an APPID and a gocbRef.
+fn is_named<A: Allocator>(name: &Name<A>, app_id: u16, gocb_ref: &[u8]) -> bool
+    ensures { IsTrue result ↔ (key_of name.now ≡ (app_id, gocb_ref.now)) }
+{
+    name.app_id == app_id && name.gocb_ref.as_slice() == gocb_ref
+}
+
+// The position of the block with this name, if the name stands at a place.
+fn position_at<A: Allocator>(
+    names: &[Name<A>],
+    place: usize,
+    app_id: u16,
+    gocb_ref: &[u8],
+) -> Option<usize>
+    ensures { IfSome result (HasName names.now (app_id, gocb_ref.now)) }
+{
+    let name = names.get(place)?;
+    if is_named(name, app_id, gocb_ref) {
+        Some(name.position)
+    } else {
+        None
+    }
+}
+
+// The position of the block with this name. Where the name stands is guessed first.
 pub(crate) fn position_named<A: Allocator>(
     names: &[Name<A>],
+    guesses: &mut Guesses,
     app_id: u16,
     gocb_ref: &[u8],
 ) -> Option<usize>
@@ -121,8 +147,14 @@ pub(crate) fn position_named<A: Allocator>(
         (All (λ n. key_of n ≡ (app_id, gocb_ref.now) → ⊥) names.now)
         (HasName names.now (app_id, gocb_ref.now)) }
 {
+    if let Some(position) = position_at(names, guesses.place(app_id), app_id, gocb_ref) {
+        return Some(position);
+    }
     match names.binary_search_by(|name| compare(name, app_id, gocb_ref)) {
-        Ok(i) => Some(names[i].position),
+        Ok(i) => {
+            guesses.note(app_id, i);
+            Some(names[i].position)
+        }
         Err(_) => None,
     }
 }

@@ -16,6 +16,7 @@ use crate::fault::SubscribeFault;
 use crate::keeping::Keeper;
 use block_core::Block;
 use list_core::Event;
+use repeat_core::{FrameMemory, Nothing};
 use std::alloc::{AllocError, Allocator};
 use std::marker::Model;
 
@@ -88,7 +89,7 @@ impl<A: Allocator + Copy> Subscriber<A> {
         self.keeper.blocks()
     }
 
-    /// How often the last `take` or `take_into` that answered Ok reached a block or its register, 0 before the first.
+    /// How often the last `take`, `take_into` or `take_into_over` that answered Ok reached a block or its register, 0 before the first.
     pub fn looks(&self) -> u64
         ensures { result ≡ self.now.looks }
     {
@@ -174,6 +175,50 @@ impl<A: Allocator + Copy> Subscriber<A> {
         ensures capacity { vec_capacity entries.old ≤ vec_capacity entries.new }
         ensures quiet_changes { changes (step_entries self.old.state (reading_of event.now)) ≡ [] → 0 < vec_capacity entries.old → IsOk result }
     {
-        self.keeper.step(event, entries)
+        let mut memory = FrameMemory::without(self.keeper.alloc());
+        self.take_into_over(&mut memory, event, entries)
+    }
+
+    /// Takes one event as `take_into` does, its frame seen through a memory of frames: one that repeats is not read again.
+    ///
+    /// # Errors
+    ///
+    /// As those of `take_into`. The memory of frames takes none that it must have.
+    pub fn take_into_over(
+        &mut self,
+        memory: &mut FrameMemory<A, Nothing>,
+        event: &Event<A>,
+        entries: &mut Vec<Entry<A>, A>,
+    ) -> Result<(), AllocError>
+        // For every list of events after which the subscriber stands, the entries are those that the list with this event has at
+        // it, and the subscriber then stands after that list.
+        ensures entries { (events : List (SpecEvent A)) → StandsAfter events self.old.state →
+            OnOk result (AreEntriesAt self.old.state.blocks (events ++ event.now ∷ []) (length events) entries.new.items) }
+        ensures stands { (events : List (SpecEvent A)) → StandsAfter events self.old.state →
+            OnOk result (StandsAfter (events ++ event.now ∷ []) self.new.state) }
+
+        // Where memory is refused the subscriber is as it was; where the event has no entry no memory is asked for.
+        ensures unchanged { OnErr result (self.new ≡ self.old) }
+        ensures quiet { (events : List (SpecEvent A)) → StandsAfter events self.old.state →
+            AreEntriesAt self.old.state.blocks (events ++ event.now ∷ []) (length events) [] → IsOk result }
+
+        // How often a block or its register was reached: once for each that expires, twice for that of a frame, and once for each
+        // that is switched where the mode is set off.
+        ensures looks { OnOk result (self.new.looks ≤ expired_count entries.new.items + other_reaches event.now.kind entries.new.items) }
+
+        // The blocks stay, and no two have one name.
+        ensures blocks { self.new.state.blocks ≡ self.old.state.blocks }
+        ensures apart { AreApart self.old.state.blocks }
+
+        // For callers: the same by what is kept.
+        ensures step { OnOk result (entries.new.items ≡ step_entries self.old.state (reading_of event.now)) }
+        ensures state { OnOk result (self.new.state ≡ step_state self.old.state (reading_of event.now)) }
+        ensures quiet_step { step_entries self.old.state (reading_of event.now) ≡ [] → IsOk result }
+
+        // A list with room for an entry keeps it, and needs no memory where no entry of the event is a change.
+        ensures capacity { vec_capacity entries.old ≤ vec_capacity entries.new }
+        ensures quiet_changes { changes (step_entries self.old.state (reading_of event.now)) ≡ [] → 0 < vec_capacity entries.old → IsOk result }
+    {
+        self.keeper.step(memory, event, entries)
     }
 }

@@ -20,6 +20,7 @@ use crate::texts::entry_object::{EntryHeading, put_entry_objects, put_twice_obje
 use engine_core::{Ending, EventEngine, Stopped, Style, refuse, run_events};
 use list_core::{Event, EventKind, EventLines, InputFault, ItemReader, ReadItems, Sink, Source};
 use object_core::{Form, LastObject};
+use repeat_core::{FrameMemory, Nothing};
 use std::alloc::{AllocError, Allocator};
 use subscribe_core::{Block, Entry, SubscribeFault, Subscriber};
 use text_core::LastLine;
@@ -77,11 +78,12 @@ fn keep_told<A: Allocator>(changes_alone: bool, entries: &mut Vec<Entry<A>, A>)
 }
 
 /// What `replay` writes: what a subscriber answers, in a manner. The memory of the entries of an event is used again for those of
-/// the next.
+/// the next, and a frame that repeats is not read again.
 #[derive(Drop)]
 struct Replaying<'a, A: Allocator> {
     manner: ReplayManner,
     subscriber: Subscriber<A>,
+    memory: FrameMemory<A, Nothing>,
     entries: Vec<Entry<A>, A>,
     /// Whether a block, by its position, has had an entry, for as many blocks as there are flags.
     heard: &'a mut [bool],
@@ -129,7 +131,8 @@ impl<A: Allocator + Copy> EventEngine<A> for Replaying<'_, A> {
         number: u64,
         event: &Event<A>,
     ) -> Result<bool, AllocError> {
-        self.subscriber.take_into(event, &mut self.entries)?;
+        self.subscriber
+            .take_into_over(&mut self.memory, event, &mut self.entries)?;
         mark_heard(self.heard, self.entries.as_slice());
         keep_told(self.manner.changes_alone, &mut self.entries);
         let blocks = self.subscriber.blocks();
@@ -160,7 +163,7 @@ fn open_mode<A: Allocator + Copy>(
 }
 
 // A list for the entries of an event. Where changes alone are told, it has room for an entry, so that an event of which nothing
-// is told asks for no memory.
+// is told needs no memory.
 fn room_for<A: Allocator>(alloc: A, changes_alone: bool) -> Result<Vec<Entry<A>, A>, AllocError>
     ensures room { changes_alone ≡ true → IfOk result (λ entries. 0 < vec_capacity entries) }
     ensures quiet { changes_alone ≡ false → IsOk result }
@@ -188,6 +191,7 @@ fn begun<'a, A: Allocator + Copy>(
     Ok(Replaying {
         manner,
         subscriber,
+        memory: FrameMemory::new(alloc),
         entries,
         heard,
     })

@@ -20,21 +20,21 @@ returns-clause-step g c = λ before stands.
     let entries = c.keep_told.new.entries.items in
     let given = c.blocks-blocks.result.now in
     let w = c.in_ok-put_said.ensures.text in
-    let blocks : given ≡ s.blocks = c.blocks-blocks.ensures ∙ c.in_ok-take_into.ensures.blocks in
-    let told = c.keep_told.ensures.told ∙ ap (told_of manner.changes_alone) c.in_ok-take_into.ensures.step in
-    replays manner form s c.take_into.new.self.state room (vec_capacity c.keep_told.new.entries) before n event entries w.0 c.args.line.now.items c.put_said.new.line.items stands told c.in_ok-take_into.ensures.state
-    (omega (arith, c.keep_told.ensures.capacity, c.in_ok-take_into.ensures.capacity))
+    let blocks : given ≡ s.blocks = c.blocks-blocks.ensures ∙ c.in_ok-take_into_over.ensures.blocks in
+    let told = c.keep_told.ensures.told ∙ ap (told_of manner.changes_alone) c.in_ok-take_into_over.ensures.step in
+    replays manner form s c.take_into_over.new.self.state room (vec_capacity c.keep_told.new.entries) before n event entries w.0 c.args.line.now.items c.put_said.new.line.items stands told c.in_ok-take_into_over.ensures.state
+    (omega (arith, c.keep_told.ensures.capacity, c.in_ok-take_into_over.ensures.capacity))
     (subst (λ (bs : List (Block g.row.A.Denot)). IsSaid form n event.moment bs entries w.0) blocks
     (subst (λ (es : List (Entry g.row.A.Denot)). IsSaid form n event.moment given es w.0) c.as_slice-entries.ensures.value w.2)) w.1
 
-pub returns-in_err-take_into-clause-step : goal.returns-in_err-take_into-clause-step
-returns-in_err-take_into-clause-step g c = λ before stands.
+pub returns-in_err-take_into_over-clause-step : goal.returns-in_err-take_into_over-clause-step
+returns-in_err-take_into_over-clause-step g c = λ before stands.
     let manner = c.args.self.now.manner in
     let s = c.args.self.now.subscriber.state in
     let room = vec_capacity c.args.self.now.entries in
     let p = err_from_is_err_and c.from_residual.result c.from_residual.ensures.1 in
     rw p.1 (λ written is none. wants_none _ manner.changes_alone _ room
-    (λ empty. false≢true (c.in_err-take_into.ensures.quiet_step empty)) (λ few more. false≢true (c.in_err-take_into.ensures.quiet_changes few more)) stands.has_room
+    (λ empty. false≢true (c.in_err-take_into_over.ensures.quiet_step empty)) (λ few more. false≢true (c.in_err-take_into_over.ensures.quiet_changes few more)) stands.has_room
     (no_entries manner c.args.form s room before c.args.number c.args.event.now written stands is none))
 
 pub returns-in_err-put_said-clause-step : goal.returns-in_err-put_said-clause-step
@@ -43,6 +43,6 @@ returns-in_err-put_said-clause-step g c = λ before stands.
     let s = c.args.self.now.subscriber.state in
     let room = vec_capacity c.args.self.now.entries in
     let p = err_from_is_err_and c.from_residual-in_err-put_said.result c.from_residual-in_err-put_said.ensures.1 in
-    let told = c.keep_told.ensures.told ∙ ap (told_of manner.changes_alone) c.in_ok-take_into.ensures.step in
+    let told = c.keep_told.ensures.told ∙ ap (told_of manner.changes_alone) c.in_ok-take_into_over.ensures.step in
     rw p.1 (λ written is none. false≢true (c.in_err-put_said.ensures.quiet
     (c.as_slice-entries.ensures.value ∙ told ∙ no_entries manner c.args.form s room before c.args.number c.args.event.now written stands is none)))

@@ -10,7 +10,7 @@ use Rattle.subscribe_core.specs.computed.Steps.{step_entries}
 use Rattle.subscribe_core.proofs.Quiet.{no_frame, quiet_step}
 use Rattle.subscribe_core.proofs.Readings.{is_read}
 use Rattle.subscribe_core.proofs.Runs.{entries_step, stands_step}
-use Rattle.subscribe_core.proofs.subscriber.Subscriber.take_into.Goals as goal
+use Rattle.subscribe_core.proofs.subscriber.Subscriber.take_into_over.Goals as goal
 
 pub returns-clause-entries : goal.returns-clause-entries
 returns-clause-entries g c = λ events stands.
