@@ -14,10 +14,11 @@ use Rattle.object_core.specs.declared.counted.Form.TheVariants.{Text, Object}
 use Rattle.frame_engines.specs.declared.engines.check.Note.{Note}
 use Rattle.frame_engines.specs.declared.engines.check.Note.TheVariants.{NotWritten, Destination}
 use Rattle.list_core.specs.declared.event.EventKind.TheVariants as kind
-use Rattle.frame_engines.specs.computed.InForm.{note_in, octets_notes_in}
+use Rattle.frame_core.specs.computed.FrameReading.{frame_at}
+use Rattle.frame_engines.specs.computed.InForm.{frame_notes_in, note_in, octets_notes_in}
 use Rattle.frame_engines.specs.CheckObject.{notes_in}
-use Rattle.frame_engines.specs.CheckText.{has_text, is_form}
-use Rattle.frame_engines.specs.WrittenForm.{fitting_form}
+use Rattle.frame_engines.specs.CheckText.{goes_where_recommended, has_text, is_form}
+use Rattle.frame_engines.specs.WrittenForm.{fitting_form, written_form}
 use Rattle.list_core.proofs.Emptiness.{back_nil}
 use Rattle.frame_engines.proofs.RewriteLemmas.{form_known, form_seen}
 
@@ -61,3 +62,14 @@ another_length f octets differ = in_case (fits f) where
 pub notes_of_frame : (A : Type 0) (form : Form) (n moment : ℕ) (octets : List ℕ) → octets_notes_in form n moment octets ≡ notes_in {A = A} form n moment (kind.Frame octets)
 notes_of_frame A Text n moment octets = refl
 notes_of_frame A (Object counted) n moment octets = refl
+
+-- what is noted of octets that are read so, where it is known whether they are those of their written form
+pub notes_of_read : (form : Form) (n moment : ℕ) (o : List ℕ) (f : Frame (Unit {0})) (written : Bool) → frame_at o ≡ Ok f → written ≡ is_form (written_form o) o
+    → note_in form n moment NotWritten written ++ note_in form n moment Destination (goes_where_recommended f) ≡ octets_notes_in form n moment o
+notes_of_read form n moment o f written read is = in_form form where
+  known : written ≡ is_form (fitting_form (Ok f)) o
+  known = is ∙ ap (λ r. is_form (fitting_form r) o) read
+
+  in_form : (g : Form) → note_in g n moment NotWritten written ++ note_in g n moment Destination (goes_where_recommended f) ≡ octets_notes_in g n moment o
+  in_form Text = ap (λ b. note_in Text n moment NotWritten b ++ note_in Text n moment Destination (goes_where_recommended f)) known ∙ sym (ap (λ r. frame_notes_in Text n moment o r) read)
+  in_form (Object counted) = ap (λ b. note_in (Object counted) n moment NotWritten b ++ note_in (Object counted) n moment Destination (goes_where_recommended f)) known ∙ sym (ap (λ r. frame_notes_in (Object counted) n moment o r) read)

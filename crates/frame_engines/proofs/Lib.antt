@@ -13,3 +13,4 @@ pub mod AsduFields
 pub mod AsduLoops
 pub mod ShortTexts
 pub mod FrameObjects
+pub mod KeptLines

@@ -4,3 +4,6 @@ pub mod ImportStep
 pub mod ObjectFields
 pub mod InForm
 pub mod ShownObjects
+pub mod KeptLine
+pub mod KeptPieces
+pub mod KeptOnce

@@ -2,5 +2,6 @@
 
 pub mod frame;
 pub mod frame_object;
+pub mod kept;
 pub mod sampled;
 pub mod sampled_object;

@@ -1,5 +1,5 @@
 //! `check`: a line for each note on a frame.
-ghost use Rattle.std.specs.Prelude.{◌≡◌, ◌≢◌, ◌++◌, [], ℕ, List, true, false, length, take, ⊤, IsOk, MatchResult, Ok, Err};
+ghost use Rattle.std.specs.Prelude.{◌≡◌, ◌≢◌, ◌++◌, [], ℕ, List, true, false, length, take, ⊤, IfSome, IsOk, MatchResult, Ok, Err};
 ghost use Rattle.std.specs.Fmt.{decimal};
 ghost use Rattle.list_core.specs.declared.device.InputEnd.{InputEnd};
 ghost use Rattle.list_core.specs.declared.event_lines.EventLines.TheVariants.{First};
@@ -7,7 +7,10 @@ ghost use Rattle.list_core.specs.Device.{GivesOctets};
 ghost use Rattle.list_core.specs.EventLine.{event_rules};
 ghost use Rattle.frame_core.specs.FrameViews.{frame_of, is_written};
 ghost use Rattle.frame_core.specs.Written.{ApduIsSpellable, written_frame};
+ghost use Rattle.frame_core.specs.computed.FrameReading.{frame_at};
 ghost use Rattle.frame_core.specs.computed.WrittenTest.{fits};
+ghost use Rattle.repeat_core.specs.Beside.{Repeats};
+ghost use Rattle.repeat_core.specs.OtherForm.{HasOtherForm};
 ghost use Rattle.text_core.specs.Pieces.{AppendsText};
 ghost use Rattle.frame_engines.specs.CheckObject.{check_event_in, notes_in};
 ghost use Rattle.frame_engines.specs.CheckText.{check_text, goes_where_recommended, has_text, is_form};
@@ -18,7 +21,7 @@ ghost use Rattle.engine_core.specs.EventsText.{exactly_event, fault_text, over_i
 ghost use Rattle.engine_core.specs.Run.{Writes};
 ghost use Rattle.engine_core.specs.Input.{reader_of};
 ghost use Rattle.engine_core.specs.RunOver.{RunsOver};
-ghost use Rattle.frame_engines.specs.WrittenForm.{fitting_form};
+ghost use Rattle.frame_engines.specs.WrittenForm.{fitting_form, written_form};
 
 use arrayvec::ArrayVec;
 use ber_core::Fault;
@@ -28,6 +31,7 @@ use frame_core::{ApduView, FrameView, encode_view, see_frame, written_length};
 use list_core::{Event, EventKind, EventLines, InputFault, ItemReader, ReadItems, Sink, Source};
 use object_core::event::{put_event_object, put_fault_object};
 use object_core::{Form, LastObject};
+use repeat_core::{Again, FrameMemory, OtherForm};
 use std::alloc::{AllocError, Allocator};
 use text_core::LastLine;
 use text_core::line::put_fault_line;
@@ -160,6 +164,27 @@ fn put_note<A: Allocator>(
     }
 }
 
+// Appends what is noted of a valid frame, which stands in its written form or does not, in a form.
+#[inline(always)]
+fn put_judged<A: Allocator>(
+    line: &mut Vec<u8, A>,
+    form: Form,
+    number: u64,
+    moment: u64,
+    view: &FrameView<'_>,
+    written: bool,
+) -> Result<(), AllocError>
+    ensures text { AppendsText result line.old.items line.new.items
+        (note_in form number moment Note.NotWritten written
+        ++ note_in form number moment Note.Destination (goes_where_recommended (frame_of {A = Unit {0}} view.now))) }
+    ensures quiet { note_in form number moment Note.NotWritten written
+        ++ note_in form number moment Note.Destination (goes_where_recommended (frame_of {A = Unit {0}} view.now)) ≡ [] → IsOk result }
+{
+    put_note(line, form, number, moment, Note::NotWritten, written)?;
+    let recommended = has_recommended_destination(view);
+    put_note(line, form, number, moment, Note::Destination, recommended)
+}
+
 // Appends what is noted of a valid frame in a form.
 fn put_view_notes<A: Allocator>(
     line: &mut Vec<u8, A>,
@@ -178,9 +203,41 @@ fn put_view_notes<A: Allocator>(
         ++ note_in form number moment Note.Destination (goes_where_recommended (frame_of {A = Unit {0}} view.now)) ≡ [] → IsOk result }
 {
     let written = stands_in_written_form(view, octets);
-    put_note(line, form, number, moment, Note::NotWritten, written)?;
-    let recommended = has_recommended_destination(view);
-    put_note(line, form, number, moment, Note::Destination, recommended)
+    put_judged(line, form, number, moment, view, written)
+}
+
+// Whether octets that repeat a frame that is held, seen so, are those of their written form, where this is known.
+#[inline(always)]
+fn form_again(again: &Again<'_, OtherForm>, view: &FrameView<'_>, octets: &[u8]) -> Option<bool>
+    requires repeats { Repeats HasOtherForm again.now octets.now }
+    requires seen { frame_at octets.now ≡ Ok (frame_of {A = Unit {0}} view.now) }
+    requires known { is_written view.now.apdu ≡ true → (octets.now ≡ written_frame (frame_of {A = Unit {0}} view.now)) × (fits (frame_of {A = Unit {0}} view.now) ≡ true) }
+    ensures { IfSome result (λ written. written ≡ is_form (written_form octets.now) octets.now) }
+{
+    if view.apdu.is_written() {
+        return Some(true);
+    }
+    let other = again.beside?;
+    if other.is_of(octets.len(), again.live, again.sq_num) {
+        Some(false)
+    } else {
+        None
+    }
+}
+
+// Keeps beside a frame that is held, which octets repeat, that its written form has another count of octets.
+#[cold]
+#[inline(never)]
+fn keep_form<A: Allocator + Copy>(
+    memory: &mut FrameMemory<A, OtherForm>,
+    octets: &[u8],
+    view: &FrameView<'_>,
+)
+    requires { frame_at octets.now ≡ Ok (frame_of {A = Unit {0}} view.now) }
+{
+    if let Some(other) = OtherForm::of(view, octets.len()) {
+        memory.keep(octets, other);
+    }
 }
 
 // Appends the fault of a frame in a form.
@@ -199,8 +256,36 @@ fn put_told_fault<A: Allocator>(
     }
 }
 
+// Appends what is noted of the octets of a frame, which is read, in a form.
+fn put_read_notes<A: Allocator + Copy>(
+    memory: &mut FrameMemory<A, OtherForm>,
+    line: &mut Vec<u8, A>,
+    form: Form,
+    number: u64,
+    moment: u64,
+    octets: &[u8],
+    is_alike: bool,
+) -> Result<(), AllocError>
+    ensures text { AppendsText result line.old.items line.new.items (octets_notes_in form number moment octets.now) }
+    ensures quiet { octets_notes_in form number moment octets.now ≡ [] → IsOk result }
+{
+    let viewed = see_frame(octets, true);
+    match &viewed {
+        Err(fault) => put_told_fault(line, form, number, moment, *fault),
+        Ok(view) => {
+            if is_alike {
+                keep_form(memory, octets, view);
+            } else {
+                memory.note(octets, view);
+            }
+            put_view_notes(line, form, number, moment, view, octets)
+        }
+    }
+}
+
 // Appends what is noted of the octets of a frame in a form.
-fn put_notes<A: Allocator>(
+fn put_notes<A: Allocator + Copy>(
+    memory: &mut FrameMemory<A, OtherForm>,
     line: &mut Vec<u8, A>,
     form: Form,
     number: u64,
@@ -210,15 +295,20 @@ fn put_notes<A: Allocator>(
     ensures text { AppendsText result line.old.items line.new.items (octets_notes_in form number moment octets.now) }
     ensures quiet { octets_notes_in form number moment octets.now ≡ [] → IsOk result }
 {
-    let viewed = see_frame(octets, true);
-    match &viewed {
-        Err(fault) => put_told_fault(line, form, number, moment, *fault),
-        Ok(view) => put_view_notes(line, form, number, moment, view, octets),
+    let again = memory.alike(octets);
+    let is_alike = again.is_some();
+    if let Some(again) = &again {
+        let view = again.see(octets, true);
+        if let Some(written) = form_again(again, &view, octets) {
+            return put_judged(line, form, number, moment, &view, written);
+        }
     }
+    put_read_notes(memory, line, form, number, moment, octets, is_alike)
 }
 
 // Appends what is noted of an event in a form, and answers whether something is.
-fn put_event_notes<A: Allocator>(
+fn put_event_notes<A: Allocator + Copy>(
+    memory: &mut FrameMemory<A, OtherForm>,
     line: &mut Vec<u8, A>,
     form: Form,
     number: u64,
@@ -233,15 +323,17 @@ fn put_event_notes<A: Allocator>(
         return Ok(false);
     };
     let before = line.len();
-    put_notes(line, form, number, event.moment, octets.as_slice())?;
+    put_notes(memory, line, form, number, event.moment, octets.as_slice())?;
     Ok(line.len() > before)
 }
 
 /// What `check` writes.
 #[derive(Drop)]
-struct CheckText;
+struct CheckText<A: Allocator> {
+    memory: FrameMemory<A, OtherForm>,
+}
 
-impl<A: Allocator> EventEngine<A> for CheckText {
+impl<A: Allocator + Copy> EventEngine<A> for CheckText<A> {
     ghost allows = { λ _ form. exactly_event (check_event_in form) };
 
     ghost stands = { λ _ _. ⊤ };
@@ -256,7 +348,7 @@ impl<A: Allocator> EventEngine<A> for CheckText {
         number: u64,
         event: &Event<A>,
     ) -> Result<bool, AllocError> {
-        let found = put_event_notes(line, form, number, event)?;
+        let found = put_event_notes(&mut self.memory, line, form, number, event)?;
         Ok(found)
     }
 }
@@ -305,5 +397,8 @@ pub fn check_over<
         events result (W.contents writer.old) (W.contents writer.new) }
     ensures fault { W.failed writer.new ≡ is_write_fault result.ending }
 {
-    run_events(alloc, style, CheckText, events, writer)
+    let engine = CheckText {
+        memory: FrameMemory::new(alloc),
+    };
+    run_events(alloc, style, engine, events, writer)
 }

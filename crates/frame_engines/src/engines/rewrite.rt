@@ -22,11 +22,12 @@ ghost use Rattle.frame_engines.specs.WrittenForm.{written_form};
 
 use arrayvec::ArrayVec;
 use engine_core::{Ending, Engine, Stopped, run_to_stop};
-use frame_core::{FrameView, encode_view, see_frame};
+use frame_core::{FrameView, encode_view};
 use list_core::{
     Event, EventKind, EventLines, ItemFault, ItemReader, ListCause, ReadError, Sink, Source,
     fault_of_list,
 };
+use repeat_core::{FrameMemory, Nothing};
 use std::alloc::{AllocError, Allocator};
 use text_core::event::put_frame_event;
 use text_core::line::{mode_word, put_list_fault_line};
@@ -80,8 +81,9 @@ fn put_written_form<A: Allocator>(
 }
 
 // Appends the line of a frame in its written form, or else of its own octets, and answers whether
-// it keeps these. A frame that stands in its written form is not written anew.
-fn put_rewritten<A: Allocator>(
+// it keeps these. It is seen through a memory of frames, and not written anew where it stands in its written form.
+fn put_rewritten<A: Allocator + Copy>(
+    memory: &mut FrameMemory<A, Nothing>,
     line: &mut Vec<u8, A>,
     moment: u64,
     octets: &[u8],
@@ -90,7 +92,7 @@ fn put_rewritten<A: Allocator>(
         (codes "F " ++ decimal moment ++ codes " " ++ encode_lower (form_or (written_form octets.now) octets.now) ++ codes "\n") }
     ensures kept { IfOk result (λ kept. kept ≡ not (is_some (written_form octets.now))) }
 {
-    let Ok(view) = see_frame(octets, true) else {
+    let Ok(view) = memory.see(octets, true) else {
         return put_own_event(line, moment, octets, true);
     };
     if view.apdu.is_written() {
@@ -115,7 +117,8 @@ fn put_mode_event<A: Allocator>(
 }
 
 // Appends the line of an event, a frame in its written form, and answers whether a frame keeps its own octets.
-fn put_rewritten_event<A: Allocator>(
+fn put_rewritten_event<A: Allocator + Copy>(
+    memory: &mut FrameMemory<A, Nothing>,
     line: &mut Vec<u8, A>,
     event: &Event<A>,
 ) -> Result<bool, AllocError>
@@ -128,7 +131,7 @@ fn put_rewritten_event<A: Allocator>(
             put_clock_event(line, event.moment)?;
             Ok(false)
         }
-        EventKind::Frame(octets) => put_rewritten(line, event.moment, octets.as_slice()),
+        EventKind::Frame(octets) => put_rewritten(memory, line, event.moment, octets.as_slice()),
         EventKind::Mode(on) => {
             put_mode_event(line, event.moment, *on)?;
             Ok(false)
@@ -138,9 +141,11 @@ fn put_rewritten_event<A: Allocator>(
 
 /// What `rewrite` writes.
 #[derive(Drop)]
-struct RewriteText;
+struct RewriteText<A: Allocator> {
+    memory: FrameMemory<A, Nothing>,
+}
 
-impl<A: Allocator> Engine<A, ItemFault<ListCause>> for RewriteText {
+impl<A: Allocator + Copy> Engine<A, ItemFault<ListCause>> for RewriteText<A> {
     type Item = Event<A>;
 
     ghost allows = { λ _. exactly rewrite_text };
@@ -154,7 +159,7 @@ impl<A: Allocator> Engine<A, ItemFault<ListCause>> for RewriteText {
         event: Event<A>,
         spare: &mut Option<Event<A>>,
     ) -> Result<bool, ReadError<ListCause>> {
-        let put = put_rewritten_event(line, &event);
+        let put = put_rewritten_event(&mut self.memory, line, &event);
         *spare = Some(event);
         match put {
             Ok(kept) => Ok(kept),
@@ -217,10 +222,11 @@ pub fn rewrite_to_stop<A: Allocator + Copy, R: Source, W: Sink>(
     ensures read_fault { result.ending ≡ Ending.ReadFault → (item_state R.left R.ending result.reader).ending ≡ InputEnd.Failed }
     ensures fault { W.failed writer.new ≡ is_write_fault result.ending }
 {
+    let memory = FrameMemory::new(alloc);
     run_to_stop(
         alloc,
         EventLines::First,
-        RewriteText,
+        RewriteText { memory },
         b"V2\n",
         reader,
         writer,

@@ -22,30 +22,63 @@ ghost use Rattle.frame_engines.specs.computed.InForm.{IsAnswerIn, IsKindIn};
 
 use crate::texts::frame::put_frame_line;
 use crate::texts::frame_object::put_frame_object;
+use crate::texts::kept::{KeptLine, kept_line, put_kept_line, put_kept_object};
 use ber_core::Fault;
 use engine_core::{Ending, EventEngine, Stopped, Style, run_events};
-use frame_core::view_frame;
+use frame_core::{ApduView, view_frame};
 use list_core::{Event, EventKind, EventLines, InputFault, ItemReader, ReadItems, Sink, Source};
 use object_core::event::{put_event_head, put_event_object, put_fault_object};
 use object_core::fields::put_field_word;
 use object_core::{Counted, Form, LastObject};
+use repeat_core::{Beside, FrameMemory};
 use std::alloc::{AllocError, Allocator};
 use text_core::LastLine;
 use text_core::line::{mode_word, put_clock_line, put_fault_line};
 use text_core::pieces::put_decimal;
 
+// Keeps what repetitions of the frame in these octets have in common in their lines, where it is held and there is memory for it.
+#[cold]
+#[inline(never)]
+fn keep_line<A: Allocator + Copy>(
+    alloc: A,
+    memory: &mut FrameMemory<A, KeptLine<A>>,
+    in_object: bool,
+    octets: &[u8],
+) {
+    let Some(again) = memory.alike(octets) else {
+        return;
+    };
+    let frame = again.frame(octets);
+    if let Some(kept) = kept_line(alloc, in_object, &frame) {
+        memory.keep(octets, kept);
+    }
+}
+
 // Appends the line of the octets of a frame.
 #[inline(always)]
-fn put_octets_line<A: Allocator>(
+fn put_octets_line<A: Allocator + Copy>(
+    alloc: A,
+    memory: &mut FrameMemory<A, KeptLine<A>>,
     line: &mut Vec<u8, A>,
     number: u64,
     octets: &[u8],
 ) -> Result<(), AllocError>
     ensures { AppendsText result line.old.items line.new.items (octets_line number octets.now) }
 {
+    if let Some(again) = memory.alike(octets) {
+        if let Some(kept) = again.beside {
+            if !kept.in_object {
+                return put_kept_line(line, number, kept, again.live, again.sq_num);
+            }
+        }
+        keep_line(alloc, memory, false, octets);
+    }
     let viewed = view_frame(octets);
     match &viewed {
-        Ok(frame) => put_frame_line(line, number, frame),
+        Ok(frame) => {
+            memory.note(octets, frame);
+            put_frame_line(line, number, frame)
+        }
         Err(fault) => put_fault_line(line, number, *fault),
     }
 }
@@ -65,7 +98,9 @@ fn put_fault_answer<A: Allocator>(
 
 // Appends the object of the octets of a frame. Never inlined, so that lines of text keep their registers.
 #[inline(never)]
-fn put_octets_object<A: Allocator>(
+fn put_octets_object<A: Allocator + Copy>(
+    alloc: A,
+    memory: &mut FrameMemory<A, KeptLine<A>>,
     line: &mut Vec<u8, A>,
     counted: Counted,
     number: u64,
@@ -74,16 +109,32 @@ fn put_octets_object<A: Allocator>(
 ) -> Result<(), AllocError>
     ensures { AppendsSome result line.old.items line.new.items (IsAnswerObject {A = Unit {0}} counted number moment (frame_at octets.now)) }
 {
+    if let Some(again) = memory.alike(octets) {
+        if let Some(kept) = again.beside {
+            if kept.in_object {
+                let frame = again.frame(octets);
+                if let ApduView::Goose(goose) = &frame.apdu {
+                    return put_kept_object(line, counted, number, moment, kept, &frame, goose);
+                }
+            }
+        }
+        keep_line(alloc, memory, true, octets);
+    }
     let viewed = view_frame(octets);
     match &viewed {
-        Ok(frame) => put_frame_object(line, counted, number, moment, frame),
+        Ok(frame) => {
+            memory.note(octets, frame);
+            put_frame_object(line, counted, number, moment, frame)
+        }
         Err(fault) => put_fault_answer(line, counted, number, moment, *fault),
     }
 }
 
 // Appends the octets of a frame in a form.
 #[inline(always)]
-fn put_shown_octets<A: Allocator>(
+fn put_shown_octets<A: Allocator + Copy>(
+    alloc: A,
+    memory: &mut FrameMemory<A, KeptLine<A>>,
     line: &mut Vec<u8, A>,
     form: Form,
     number: u64,
@@ -93,8 +144,10 @@ fn put_shown_octets<A: Allocator>(
     ensures { AppendsSome result line.old.items line.new.items (IsAnswerIn {A = Unit {0}} form number moment (frame_at octets.now)) }
 {
     match form {
-        Form::Text => put_octets_line(line, number, octets),
-        Form::Object(counted) => put_octets_object(line, counted, number, moment, octets),
+        Form::Text => put_octets_line(alloc, memory, line, number, octets),
+        Form::Object(counted) => {
+            put_octets_object(alloc, memory, line, counted, number, moment, octets)
+        }
     }
 }
 
@@ -164,7 +217,9 @@ fn put_shown_mode<A: Allocator>(
 }
 
 // Appends an event in a form.
-fn put_shown<A: Allocator>(
+fn put_shown<A: Allocator + Copy>(
+    alloc: A,
+    memory: &mut FrameMemory<A, KeptLine<A>>,
     line: &mut Vec<u8, A>,
     form: Form,
     number: u64,
@@ -175,16 +230,25 @@ fn put_shown<A: Allocator>(
     let moment = event.moment;
     match &event.kind {
         EventKind::Clock => put_shown_clock(line, form, number, moment),
-        EventKind::Frame(octets) => put_shown_octets(line, form, number, moment, octets.as_slice()),
+        EventKind::Frame(octets) => {
+            let octets = octets.as_slice();
+            put_shown_octets(alloc, memory, line, form, number, moment, octets)
+        }
         EventKind::Mode(on) => put_shown_mode(line, form, number, moment, *on),
     }
 }
 
-/// What `show` writes.
+/// What `show` writes, and the frames whose repetitions it writes without reading them.
 #[derive(Drop)]
-struct ShowText;
+struct ShowText<A: Allocator>
+where
+    KeptLine<A>: Beside,
+{
+    alloc: A,
+    memory: FrameMemory<A, KeptLine<A>>,
+}
 
-impl<A: Allocator> EventEngine<A> for ShowText {
+impl<A: Allocator + Copy> EventEngine<A> for ShowText<A> {
     ghost allows = { λ _. show_allows };
 
     ghost stands = { λ _ _. ⊤ };
@@ -199,7 +263,7 @@ impl<A: Allocator> EventEngine<A> for ShowText {
         number: u64,
         event: &Event<A>,
     ) -> Result<bool, AllocError> {
-        put_shown(line, form, number, event)?;
+        put_shown(self.alloc, &mut self.memory, line, form, number, event)?;
         Ok(false)
     }
 }
@@ -211,7 +275,8 @@ impl<A: Allocator> EventEngine<A> for ShowText {
 /// and `ReadFault`, a prefix of it at `WriteFault`, and its first lines at `Memory`: docs/PROOFS.md says
 /// it in full, under "What a run leaves written".
 ///
-/// One line of the list is held at a time, and one event beside the one whose memory is used again.
+/// One line of the list is held at a time, and one event beside the one whose memory is used again; and of at most 256 frames that
+/// were repeated, the octets and the text that their repetitions have in common.
 #[inline(never)]
 pub fn show<A: Allocator + Copy, R: Source, W: Sink>(
     alloc: A,
@@ -242,5 +307,9 @@ pub fn show_over<
     ensures text { RunsOver (reader_of I.answers I.number F.refused F.failed) (over_in style (show_allows {A = A}) (fault_text F.last_line F.last_object)) events result (W.contents writer.old) (W.contents writer.new) }
     ensures fault { W.failed writer.new ≡ is_write_fault result.ending }
 {
-    run_events(alloc, style, ShowText, events, writer)
+    let shown = ShowText {
+        alloc,
+        memory: FrameMemory::new(alloc),
+    };
+    run_events(alloc, style, shown, events, writer)
 }

@@ -44,7 +44,7 @@ fn prepend_apdu_word(text: &mut ShortText, apdu: &ApduView<'_>)
 
 // Puts the envelope into a text of no octets, which stays where it is: to hand out one would copy it.
 #[inline(always)]
-fn prepend_envelope_text(text: &mut ShortText, frame: &FrameView<'_>)
+pub(crate) fn prepend_envelope_text(text: &mut ShortText, frame: &FrameView<'_>)
     requires { text.old ≡ [] }
     ensures text { text.new ≡ envelope_text (frame_of {A = Unit {0}} frame.now) }
     ensures size { length text.new ≤ 100 }
@@ -131,7 +131,11 @@ fn put_apdu_text<A: Allocator>(out: &mut Vec<u8, A>, apdu: &ApduView<'_>) -> Res
 }
 
 // Appends the octets behind the APDU, and the end of the line.
-fn put_frame_end<A: Allocator>(out: &mut Vec<u8, A>, trailer: &[u8]) -> Result<(), AllocError>
+#[inline(always)]
+pub(crate) fn put_frame_end<A: Allocator>(
+    out: &mut Vec<u8, A>,
+    trailer: &[u8],
+) -> Result<(), AllocError>
     ensures { AppendsText result out.old.items out.new.items (codes " trailer=" ++ trailer_text trailer.now ++ codes "\n") }
 {
     match trailer {

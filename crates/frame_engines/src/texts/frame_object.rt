@@ -39,7 +39,8 @@ fn prepend_tag_value(text: &mut ShortText, tag: Option<VlanTag>)
 }
 
 // Appends the fields of the envelope.
-fn put_envelope_fields<A: Allocator>(
+#[inline(always)]
+pub(crate) fn put_envelope_fields<A: Allocator>(
     out: &mut Vec<u8, A>,
     frame: &FrameView<'_>,
 ) -> Result<(), AllocError>
@@ -133,7 +134,8 @@ fn put_frame_object_head<A: Allocator>(
 }
 
 // Appends the octets behind the APDU, and the end of the object and of its line.
-fn put_frame_object_end<A: Allocator>(
+#[inline(always)]
+pub(crate) fn put_frame_object_end<A: Allocator>(
     out: &mut Vec<u8, A>,
     trailer: &[u8],
 ) -> Result<(), AllocError>

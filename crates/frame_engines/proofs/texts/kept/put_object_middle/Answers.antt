@@ -1,0 +1,14 @@
+use Rattle.std.proofs.Common.{refl}
+use Rattle.text_core.proofs.PieceLemmas.{done, more, row, several}
+use Rattle.frame_engines.proofs.GooseFields.{time_pieces}
+use Rattle.frame_engines.proofs.texts.kept.put_object_middle.Goals as goal
+
+pub returns : goal.returns
+returns g c =
+    row c.args.out.now.items c.extend_from_slice.new.self.items _ (
+    more c.in_ok-put_text.ensures (
+    more c.in_ok-put_text_or.ensures (
+    several (time_pieces c.args.goose.now.t) c.in_ok-put_time_fields.ensures (
+    more c.in_ok-put_number.ensures (
+    more c.in_ok-extend_from_slice.ensures.items (
+    done refl))))))
