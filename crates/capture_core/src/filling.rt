@@ -15,8 +15,9 @@ pub(crate) enum Filled {
     Short(usize),
 }
 
-// Reads until `into` is full, or the source has ended.
-pub(crate) fn fill<R: Source>(reader: &mut R, into: &mut [u8]) -> Filled
+// Reads until `into` is full, or the source has ended, as often as it takes.
+#[inline(never)]
+fn fill_by_reads<R: Source>(reader: &mut R, into: &mut [u8]) -> Filled
     ensures { Fills (R.left reader.old) (R.ending reader.old) result into.new (R.left reader.new) (R.ending reader.new) }
 {
     let mut count = 0;
@@ -31,6 +32,17 @@ pub(crate) fn fill<R: Source>(reader: &mut R, into: &mut [u8]) -> Filled
         }
     }
     Filled::Whole
+}
+
+// Reads until `into` is full, or the source has ended: at once where the source has all of it at hand, as nearly always.
+#[inline(always)]
+pub(crate) fn fill<R: Source>(reader: &mut R, into: &mut [u8]) -> Filled
+    ensures { Fills (R.left reader.old) (R.ending reader.old) result into.new (R.left reader.new) (R.ending reader.new) }
+{
+    match reader.ending() {
+        InputEnd::Open if reader.read_at_hand(into) => Filled::Whole,
+        _ => fill_by_reads(reader, into),
+    }
 }
 
 /// How many octets are read over at a time, and how many are few: the padding behind a packet, and most options.

@@ -1,5 +1,5 @@
 //! Interfaces of a section, and the moments of their packets.
-ghost use Rattle.std.specs.Prelude.{◌≡◌, ◌<◌, ◌≤◌, ◌*◌, ◌/◌, ◌^◌};
+ghost use Rattle.std.specs.Prelude.{◌≡◌, ◌<◌, ◌≤◌, ◌*◌, ◌/◌, ◌^◌, IfSome};
 ghost use Rattle.capture_core.specs.Interfaces.{moment_after, seconds_back, seconds_forth, units_of};
 
 /// An interface of a section, as its description block has it (draft-ietf-opsawg-pcapng, 4.2).
@@ -16,7 +16,7 @@ pub(crate) struct Interface {
 }
 
 /// The greatest moment of a packet.
-const LAST_MOMENT: u128 = 999_999_999_999_999_999;
+const LAST_MOMENT: u64 = 999_999_999_999_999_999;
 
 /// The resolution of microseconds, and that of nanoseconds.
 pub(crate) const MICROSECONDS: u8 = 6;
@@ -69,8 +69,37 @@ fn offset_of(offset: u64) -> (u128, u128)
     }
 }
 
-// The moment of a packet that was captured after so many ticks.
+// The microseconds of ticks, rounded down, where these are microseconds or nanoseconds.
+#[inline(always)]
+fn plain_microseconds(resolution: u8, ticks: u64) -> Option<u64>
+    ensures { IfSome result (λ m. m ≡ ticks * 1000000 / units_of resolution) }
+{
+    match resolution {
+        MICROSECONDS => Some(ticks),
+        NANOSECONDS => Some(ticks / 1000),
+        _ => None,
+    }
+}
+
+// The moment of a packet that was captured after so many ticks. Without an offset most need no large numbers.
+#[inline(always)]
 pub(crate) fn moment_after(interface: &Interface, ticks: u64) -> Option<u64>
+    ensures { result ≡ moment_after interface.now ticks }
+{
+    if interface.offset == 0 {
+        if let Some(moment) = plain_microseconds(interface.resolution, ticks) {
+            return if moment > LAST_MOMENT {
+                None
+            } else {
+                Some(moment)
+            };
+        }
+    }
+    moment_with_offset(interface, ticks)
+}
+
+// The moment of a packet that was captured after so many ticks of any resolution, with an offset.
+fn moment_with_offset(interface: &Interface, ticks: u64) -> Option<u64>
     ensures { result ≡ moment_after interface.now ticks }
 {
     let (added, back) = offset_of(interface.offset);
@@ -79,7 +108,7 @@ pub(crate) fn moment_after(interface: &Interface, ticks: u64) -> Option<u64>
         return None;
     }
     let moment = forth - back;
-    if moment > LAST_MOMENT {
+    if moment > u128::from(LAST_MOMENT) {
         return None;
     }
     Some(moment as u64)

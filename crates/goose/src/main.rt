@@ -32,7 +32,7 @@ use crate::output::Output;
 use crate::patient::Patient;
 use clap::error::ErrorKind as WordsErrorKind;
 use engine_core::{Ending, status};
-use list_core::{FromRead, ToWrite};
+use list_core::{FromBuffered, ToWrite};
 use std::alloc::{AllocError, Global};
 use std::io::{BufReader, ErrorKind, IsTerminal};
 use std::process::ExitCode;
@@ -357,7 +357,7 @@ fn found_in(
     let Ok(input) = BufReader::with_capacity(rt.alloc(), BLOCK, opened) else {
         return Err(status(&Ending::Memory));
     };
-    match list_blocks(rt.alloc(), options, FromRead::new(input)) {
+    match list_blocks(rt.alloc(), options, FromBuffered::new(input)) {
         Ok(listed) => {
             say_found(rt, name, &listed.found);
             Ok(listed.found)
@@ -422,7 +422,7 @@ fn run_over(
     let intake = intake_of(&task, options);
     let mut notes = notes_for(rt, &task);
     let mut writer = ToWrite::new(&output);
-    let reader = FromRead::new(input);
+    let reader = FromBuffered::new(input);
     let Performed {
         ending,
         told,

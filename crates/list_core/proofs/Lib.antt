@@ -1,4 +1,5 @@
 pub mod Devices
+pub mod AtHand
 pub mod Cuts
 pub mod Lines
 pub mod MomentDigits

@@ -1,5 +1,5 @@
 //! What octets are read from and written to.
-ghost use Rattle.std.specs.Prelude.{◌≡◌, ℕ, ◌<◌, ◌≤◌, List, Option, Bool, false, length, take, IfOk, MatchResult};
+ghost use Rattle.std.specs.Prelude.{◌≡◌, ℕ, ◌<◌, ◌≤◌, List, Option, Bool, false, true, length, take, IfOk, MatchResult};
 ghost use Rattle.std.specs.Io.KnownBytes.{Consumes, Appends};
 ghost use Rattle.std.specs.Result.{is_err};
 ghost use Rattle.list_core.specs.declared.device.InputEnd.{InputEnd};
@@ -44,6 +44,17 @@ pub trait Source {
     /// Whether more can come.
     fn ending(&self) -> InputEnd
         ensures { result ≡ ending self.now };
+
+    /// Reads the next octets to all of `into` where it has as many at hand, so that none is waited for, and answers whether it
+    /// did. Where it did not, nothing was taken.
+    fn read_at_hand(&mut self, into: &mut [u8]) -> bool
+        requires open { ending self.old ≡ InputEnd.Open }
+        ensures given { result ≡ true → Consumes (left self.old) (left self.new) into.new }
+        ensures kept { result ≡ false → left self.new ≡ left self.old }
+        ensures ending { ending self.new ≡ ending self.old }
+    {
+        false
+    }
 }
 
 /// What octets are written to, some at a time.

@@ -11,6 +11,7 @@
 //! ```
 #![tactic(auto)]
 
+mod buffered;
 mod cutting;
 mod decimal;
 mod device;
@@ -31,6 +32,7 @@ mod read_items;
 mod std_io;
 mod whole_write;
 
+pub use crate::buffered::FromBuffered;
 pub use crate::cutting::cut_first;
 pub use crate::decimal::decimal_in;
 pub use crate::device::{DeviceFault, InputEnd, Sink, Source};

@@ -11,8 +11,8 @@ use std::io::{Read, Write};
 /// A source of what a reader gives. No read is tried again.
 #[derive(Drop)]
 pub struct FromRead<R> {
-    reader: R,
-    ending: InputEnd,
+    pub(crate) reader: R,
+    pub(crate) ending: InputEnd,
 }
 
 impl<R: Read> FromRead<R> {

@@ -2,7 +2,6 @@
 use Rattle.std.specs.Prelude.{◌≡◌, ◌≢◌, ◌≤◌, ◌<◌, ℕ, ◌+◌, ◌-◌, ◌==◌, List, ◌++◌, length, take, Option, Some, Result, Ok, Err, if◌then◌else◌}
 use Rattle.std.specs.Io.KnownBytes.{Consumes}
 use Rattle.list_core.specs.declared.device.InputEnd.{InputEnd}
-use Rattle.list_core.specs.declared.event.Event.{Event}
 use Rattle.list_core.specs.Device.{OnlyOpen}
 use Rattle.capture_core.specs.Numbers.{number_at}
 use Rattle.capture_core.specs.Packets.{Packet, event_of}

@@ -1,8 +1,9 @@
 //! The adapters hand a reader and a writer all that they are lent, once for each call of theirs.
 
-use list_core::{FromRead, Sink, Source, ToWrite, put_all};
+use list_core::{FromBuffered, FromRead, InputEnd, Sink, Source, ToWrite, put_all};
+use std::alloc::Global;
 use std::io;
-use std::io::{Read, Write};
+use std::io::{BufReader, Read, Write};
 
 /// Gives or takes one octet a call, and keeps how many calls there were, and how many octets it was lent at most.
 #[derive(Drop)]
@@ -77,4 +78,44 @@ fn a_write_of_one_octet_is_followed_by_the_rest(rt: HostRuntime) {
         assert!(rt; put_all(&mut sink, &[7; 300]) == Ok(()) && !sink.has_failed());
     }
     assert!(rt; device.calls == 300 && device.lent == 300);
+}
+
+/// How many octets a read of an open source gives.
+fn count_read<S: Source>(source: &mut S, into: &mut [u8]) -> usize {
+    match source.ending() {
+        InputEnd::Open if !into.is_empty() => source.read_some(into).unwrap_or(0),
+        _ => 0,
+    }
+}
+
+/// Whether an open source has as many octets at hand, which it gives then.
+fn is_at_hand<S: Source>(source: &mut S, into: &mut [u8]) -> bool {
+    match source.ending() {
+        InputEnd::Open => source.read_at_hand(into),
+        _ => false,
+    }
+}
+
+/// Whether of a reader that reads eight octets ahead those alone are at hand, and each once.
+fn has_at_hand_what_was_read(alloc: Global) -> bool {
+    let octets = b"0123456789abc".as_slice();
+    let Ok(reader) = BufReader::with_capacity(alloc, 8, octets) else {
+        return false;
+    };
+    let mut source = FromBuffered::new(reader);
+    let (mut two, mut six, mut seven) = ([0; 2], [0; 6], [0; 7]);
+    let nothing = !is_at_hand(&mut source, &mut two);
+    let first = count_read(&mut source, &mut two) == 2 && two == *b"01";
+    let fewer = !is_at_hand(&mut source, &mut seven) && seven == [0; 7];
+    let rest = is_at_hand(&mut source, &mut six) && six == *b"234567";
+    let none = !is_at_hand(&mut source, &mut two);
+    let next = count_read(&mut source, &mut two) == 2 && two == *b"89";
+    nothing && first && fewer && rest && none && next
+}
+
+#[test]
+fn what_was_read_ahead_is_at_hand(rt: HostRuntime) {
+    assert!(rt; has_at_hand_what_was_read(rt.alloc()));
+    let mut source = FromRead::new(b"0123".as_slice());
+    assert!(rt; !is_at_hand(&mut source, &mut [0; 2]));
 }

@@ -6,7 +6,7 @@ use Rattle.list_core.specs.declared.device.InputEnd.TheVariants.{Open}
 use Rattle.list_core.proofs.Devices.{Consumes-append}
 use Rattle.list_core.proofs.Readers.{OnlyOpen-append}
 use Rattle.capture_core.proofs.Filled.{take-put_mid}
-use Rattle.capture_core.proofs.filling.fill.Goals as goal
+use Rattle.capture_core.proofs.filling.fill_by_reads.Goals as goal
 
 -- a read that gave octets leaves the source open
 still_open : (w : InputEnd) (n : ℕ) → w ≡ ending_after {E = DeviceFault} (Ok n) → 0 < n → w ≡ Open

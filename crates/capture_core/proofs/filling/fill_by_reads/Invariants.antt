@@ -1,7 +1,7 @@
 use Rattle.std.proofs.Common.{◌≡◌, ◌-◌, ◌≤◌, length, take}
 use Rattle.std.specs.Io.KnownBytes.{Consumes}
 use Rattle.list_core.specs.Device.{OnlyOpen}
-use Rattle.capture_core.proofs.filling.fill.Given as goal
+use Rattle.capture_core.proofs.filling.fill_by_reads.Given as goal
 
 abbrev pub invariant-reads : goal.invariant-reads
 invariant-reads g l = record {
