@@ -1,7 +1,8 @@
 //! A reader of events over a reader of events, that passes over the frames of other protocols.
-ghost use Rattle.std.specs.Prelude.{◌≡◌};
-ghost use Rattle.tally_core.specs.Tally.{no_tally};
-ghost use Rattle.frame_core.specs.SkipOther.{Skips, beneath, pass_where, passed_over, skip_other, type_passed};
+ghost use Rattle.std.specs.Prelude.{◌≡◌, ℕ, false};
+ghost use Rattle.list_core.specs.ReadItems.{told_as};
+ghost use Rattle.tally_core.specs.Tally.{Tally, no_tally};
+ghost use Rattle.frame_core.specs.SkipOther.{Skips, beneath, pass_answer, pass_where, passed_over, skip_answer, skip_other, type_passed};
 
 use crate::other_type::other_ether_type;
 use list_core::{Event, EventKind, ReadError, ReadItems};
@@ -25,6 +26,18 @@ fn type_passed<A: Allocator>(kind: &EventKind<A>) -> Option<u16>
     match kind {
         EventKind::Frame(octets) => other_ether_type(octets.as_slice()),
         EventKind::Clock | EventKind::Mode(_) => None,
+    }
+}
+
+// Whether an answer has a frame of another protocol.
+#[inline(always)]
+fn has_passed<A: Allocator, F>(answer: &Result<Option<Event<A>>, ReadError<F>>) -> bool
+    ensures left { (n : ℕ) → result ≡ false → skip_answer (told_as n answer.now) ≡ told_as n answer.now }
+    ensures kept { (n : ℕ) (tally : Tally) → result ≡ false → pass_answer (told_as n answer.now) tally ≡ tally }
+{
+    match answer {
+        Ok(Some(event)) => type_passed(&event.kind).is_some(),
+        Ok(None) | Err(_) => false,
     }
 }
 
@@ -68,6 +81,17 @@ impl<I, A: Allocator> SkipOther<I, A> {
         (items, passed)
     }
 
+    // Hands on the memory of the frame that was passed over last.
+    #[inline(never)]
+    fn lend(&mut self, spare: &mut Option<Event<A>>)
+        ensures beneath { beneath self.new ≡ beneath self.old }
+        ensures passed { passed_over self.new ≡ passed_over self.old }
+    {
+        if let Some(event) = self.spare.take() {
+            *spare = Some(event);
+        }
+    }
+
     // What is left of the event of this number.
     fn leave(&mut self, number: u64, event: Event<A>) -> Event<A>
         ensures event { result ≡ skip_other event }
@@ -89,6 +113,26 @@ impl<I, A: Allocator> SkipOther<I, A> {
     }
 }
 
+impl<I, A: Allocator> SkipOther<I, A> {
+    // What is left of an answer, whose event has this number. Never inlined: most frames are of GOOSE or Sampled Values.
+    #[inline(never)]
+    fn leave_of<F>(
+        &mut self,
+        number: u64,
+        answer: Result<Option<Event<A>>, ReadError<F>>,
+    ) -> Result<Option<Event<A>>, ReadError<F>>
+        ensures left { told_as number result ≡ skip_answer (told_as number answer) }
+        ensures passed { passed_over self.new ≡ pass_answer (told_as number answer) (passed_over self.old) }
+        ensures beneath { beneath self.new ≡ beneath self.old }
+    {
+        match answer {
+            Ok(Some(event)) => Ok(Some(self.leave(number, event))),
+            Ok(None) => Ok(None),
+            Err(error) => Err(error),
+        }
+    }
+}
+
 impl<A: Allocator + Copy, I: ReadItems<A, Item = Event<A>>> ReadItems<A> for SkipOther<I, A> {
     type Item = Event<A>;
 
@@ -100,22 +144,21 @@ impl<A: Allocator + Copy, I: ReadItems<A, Item = Event<A>>> ReadItems<A> for Ski
 
     ghost most = { λ s. I.most (beneath s) };
 
+    #[inline(always)]
     fn read_item(
         &mut self,
         alloc: A,
         spare: &mut Option<Event<A>>,
     ) -> Result<Option<Event<A>>, ReadError<I::Fault>> {
-        if let Some(event) = self.spare.take() {
-            *spare = Some(event);
+        if self.spare.is_some() {
+            self.lend(spare);
         }
-        match self.items.read_item(alloc, spare) {
-            Ok(Some(event)) => {
-                let number = self.items.item_number();
-                Ok(Some(self.leave(number, event)))
-            }
-            Ok(None) => Ok(None),
-            Err(error) => Err(error),
+        let answer = self.items.read_item(alloc, spare);
+        if has_passed(&answer) {
+            let number = self.items.item_number();
+            return self.leave_of(number, answer);
         }
+        answer
     }
 
     fn item_number(&self) -> u64 {

@@ -1,5 +1,5 @@
 //! Which tag of a frame is taken out.
-ghost use Rattle.std.specs.Prelude.{◌≡◌, ◌≤◌, ◌+◌, length, IfSome, option_map};
+ghost use Rattle.std.specs.Prelude.{◌≡◌, ◌≤◌, ◌+◌, ◌==◌, ◌||◌, None, false, length, IfSome, option_map};
 ghost use Rattle.frame_core.specs.Envelope.{word_at};
 ghost use Rattle.unwrap_core.specs.Unwrapped.{is_hsr_tag_at, is_vlan_tag_at, tag_behind, tag_in};
 
@@ -25,6 +25,12 @@ const CUSTOMER: u16 = 0x8100;
 
 /// The word that announces a VLAN tag of a provider (IEEE 802.1Q).
 const PROVIDER: u16 = 0x88a8;
+
+/// The greatest second octet of these three words.
+const GREATEST_SECOND: u16 = 0xa8;
+
+/// How many octets a frame has at least that has a tag to be taken out: the addresses, a tag, and the word behind it.
+const LEAST: usize = 18;
 
 /// A tag of a frame.
 #[derive(Clone, Copy)]
@@ -92,4 +98,28 @@ pub(crate) fn tag_in(octets: &[u8]) -> Option<Tag>
         return tag_behind(octets);
     }
     None
+}
+
+// Whether a word announces a tag. That the EtherTypes of GOOSE and of Sampled Values do not is seen by their second octet alone.
+#[inline(always)]
+fn announces_tag(word: u16) -> bool
+    ensures { result ≡ (word == 0x892f || (word == 0x8100 || word == 0x88a8)) }
+{
+    word % 256 <= GREATEST_SECOND && (word == HSR || word == CUSTOMER || word == PROVIDER)
+}
+
+/// Whether a tag may be taken out of a frame, by the words that would announce one: a quick test, which nearly every frame without
+/// such a tag fails.
+#[inline(always)]
+pub(crate) fn may_have_tag(octets: &[u8]) -> bool
+    ensures { result ≡ false → tag_in octets.now ≡ None }
+{
+    if octets.len() < LEAST {
+        return false;
+    }
+    let word = BigEndian::read_u16(&octets[BEHIND_ADDRESSES..]);
+    if word == CUSTOMER {
+        return announces_tag(BigEndian::read_u16(&octets[BEHIND_TAG..]));
+    }
+    word == HSR || word == PROVIDER
 }

@@ -1,9 +1,10 @@
 //! A reader of events over a reader of events, that changes each as is asked for.
 ghost use Rattle.std.specs.Prelude.{◌≡◌, ℕ, false};
 ghost use Rattle.list_core.specs.ReadItems.{told_as};
+ghost use Rattle.unwrap_core.specs.Unwrapped.{unwrapped};
 ghost use Rattle.unwrap_core.specs.UnwrapEvents.{UnwrapsEach, change_answer, change_event, under, unwrap_event, unwrap_where};
 
-use crate::tags::tag_in;
+use crate::tags::may_have_tag;
 use crate::unwrapping::unwrap_frame;
 use ber_core::Octets;
 use list_core::{Event, EventKind, ReadError, ReadItems};
@@ -23,7 +24,17 @@ pub struct Unwrap<I> {
     changes: Changes,
 }
 
+// Unwraps a frame that may have tags to be taken out. Never inlined, so that the frames which have none are not moved for it.
+#[cold]
+#[inline(never)]
+fn unwrap_tagged<A: Allocator>(frame: &mut Vec<u8, A>)
+    ensures { frame.new.items ≡ unwrapped frame.old.items }
+{
+    unwrap_frame(frame)
+}
+
 // The event, its frame unwrapped.
+#[inline(always)]
 fn unwrap_event<A: Allocator>(event: Event<A>) -> Event<A>
     ensures { result ≡ unwrap_event event }
 {
@@ -31,7 +42,7 @@ fn unwrap_event<A: Allocator>(event: Event<A>) -> Event<A>
     match kind {
         EventKind::Frame(octets) => {
             let mut frame = octets.into_vec();
-            unwrap_frame(&mut frame);
+            unwrap_tagged(&mut frame);
             Event {
                 moment,
                 kind: EventKind::Frame(Octets::from(frame)),
@@ -44,17 +55,19 @@ fn unwrap_event<A: Allocator>(event: Event<A>) -> Event<A>
     }
 }
 
-// Whether a frame that is to be unwrapped happened.
+// Whether a frame happened that may have tags to be taken out.
+#[inline(always)]
 fn is_wrapped<A: Allocator>(event: &Event<A>) -> bool
     ensures { result ≡ false → unwrap_event event.now ≡ event.now }
 {
     match &event.kind {
-        EventKind::Frame(octets) => tag_in(octets.as_slice()).is_some(),
+        EventKind::Frame(octets) => may_have_tag(octets.as_slice()),
         EventKind::Clock | EventKind::Mode(_) => false,
     }
 }
 
 // The event, its frame unwrapped where frames are.
+#[inline(always)]
 fn unwrap_where<A: Allocator>(unwraps: bool, event: Event<A>) -> Event<A>
     ensures { result ≡ unwrap_where unwraps event }
 {
@@ -70,6 +83,7 @@ fn is_changed<A: Allocator>(changes: Changes, event: &Event<A>) -> bool
 }
 
 // The event, changed.
+#[inline(always)]
 fn change_event<A: Allocator>(changes: Changes, event: Event<A>) -> Event<A>
     ensures { result ≡ change_event changes event }
 {
@@ -150,9 +164,6 @@ impl<A: Allocator + Copy, I: ReadItems<A, Item = Event<A>>> ReadItems<A> for Unw
         alloc: A,
         spare: &mut Option<Event<A>>,
     ) -> Result<Option<Event<A>>, ReadError<I::Fault>> {
-        if !self.changes.unwraps {
-            return self.items.read_item(alloc, spare);
-        }
         change_answer(self.changes, self.items.read_item(alloc, spare))
     }
 
