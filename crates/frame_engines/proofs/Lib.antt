@@ -13,4 +13,5 @@ pub mod AsduFields
 pub mod AsduLoops
 pub mod ShortTexts
 pub mod FrameObjects
+pub mod SettledTexts
 pub mod KeptLines

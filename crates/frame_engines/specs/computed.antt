@@ -4,6 +4,7 @@ pub mod ImportStep
 pub mod ObjectFields
 pub mod InForm
 pub mod ShownObjects
+pub mod SettledMembers
 pub mod KeptLine
 pub mod KeptPieces
 pub mod KeptOnce

@@ -5,3 +5,4 @@ pub mod frame_object;
 pub mod kept;
 pub mod sampled;
 pub mod sampled_object;
+mod settled;

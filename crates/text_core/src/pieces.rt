@@ -372,7 +372,8 @@ pub fn put_quoted<A: Allocator>(out: &mut Vec<u8, A>, text: &[u8]) -> Result<(),
 {
     out.push(b'"')?;
     match text.len() {
-        0..=3 => put_escaped(out, text)?,
+        0..=1 => put_escaped(out, text)?,
+        2..=3 => put_short_text::<2, A>(out, text)?,
         4..=7 => put_short_text::<4, A>(out, text)?,
         8..=16 => put_short_text::<8, A>(out, text)?,
         17..=32 => put_short_text::<16, A>(out, text)?,

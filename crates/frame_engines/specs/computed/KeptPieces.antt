@@ -1,5 +1,5 @@
 -- The pieces of the line of a frame of GOOSE around its two numbers.
-use Rattle.std.specs.Prelude.{ℕ, List, [], ◌∷◌, ◌++◌, codes}
+use Rattle.std.specs.Prelude.{ℕ, Bool, true, false, List, [], ◌∷◌, ◌++◌, codes}
 use Rattle.std.specs.List.{concat}
 use Rattle.std.specs.Fmt.{decimal}
 use Rattle.pdu_core.specs.declared.goose.GoosePdu.{GoosePdu}
@@ -10,7 +10,9 @@ use Rattle.object_core.specs.Objects.{date_value, in_quotes, text_or_null}
 use Rattle.object_core.specs.Times.{moment_of, quality_value}
 use Rattle.frame_engines.specs.FrameText.{envelope_text, trailer_text}
 use Rattle.frame_engines.specs.FrameObject.{envelope_fields}
+use Rattle.frame_engines.specs.computed.KeptLine.{object_end}
 use Rattle.frame_engines.specs.computed.ObjectFields.{next_fields}
+use Rattle.frame_engines.specs.computed.SettledMembers.{settled_array}
 
 -- of its line of text: before timeAllowedtoLive
 abbrev pub line_front : {A : Type 0} → Frame A → GoosePdu A → List ℕ
@@ -42,3 +44,8 @@ abbrev pub object_back : {A : Type 0} → GoosePdu A → List ℕ
 object_back p =
     concat ((codes ",\"simulation\":" ++ boolean_text p.simulation) ∷ (codes ",\"confRev\":" ++ decimal p.conf_rev) ∷ (codes ",\"ndsCom\":" ++ boolean_text p.nds_com)
     ∷ codes ",\"members\":" ∷ [])
+
+-- from its members to its end, where it is kept whole
+abbrev pub object_tail : {A : Type 0} → Bool → Frame A → GoosePdu A → List ℕ
+object_tail true f p = settled_array p.members ++ object_end f.trailer
+object_tail false f p = []

@@ -22,7 +22,7 @@ ghost use Rattle.frame_engines.specs.computed.InForm.{IsAnswerIn, IsKindIn};
 
 use crate::texts::frame::put_frame_line;
 use crate::texts::frame_object::put_frame_object;
-use crate::texts::kept::{KeptLine, kept_line, put_kept_line, put_kept_object};
+use crate::texts::kept::{KeptLine, kept_line, put_kept_line, put_kept_object, put_whole_object};
 use ber_core::Fault;
 use engine_core::{Ending, EventEngine, Stopped, Style, run_events};
 use frame_core::{ApduView, view_frame};
@@ -96,6 +96,34 @@ fn put_fault_answer<A: Allocator>(
     put_fault_object(line, counted, number, moment, fault)
 }
 
+// Appends the object of the octets of a frame that is held, of which the line was to be kept now: from that, where it is whole.
+#[cold]
+#[inline(never)]
+fn put_just_kept<A: Allocator + Copy>(
+    memory: &FrameMemory<A, KeptLine<A>>,
+    line: &mut Vec<u8, A>,
+    counted: Counted,
+    number: u64,
+    moment: u64,
+    octets: &[u8],
+) -> Result<(), AllocError>
+    ensures { AppendsSome result line.old.items line.new.items (IsAnswerObject {A = Unit {0}} counted number moment (frame_at octets.now)) }
+{
+    if let Some(again) = memory.alike(octets) {
+        if let Some(kept) = again.beside {
+            if kept.in_object && kept.whole {
+                let (live, sq_num) = (again.live, again.sq_num);
+                return put_whole_object(line, counted, number, moment, kept, live, sq_num);
+            }
+        }
+    }
+    let viewed = view_frame(octets);
+    match &viewed {
+        Ok(frame) => put_frame_object(line, counted, number, moment, frame),
+        Err(fault) => put_fault_answer(line, counted, number, moment, *fault),
+    }
+}
+
 // Appends the object of the octets of a frame. Never inlined, so that lines of text keep their registers.
 #[inline(never)]
 fn put_octets_object<A: Allocator + Copy>(
@@ -112,6 +140,10 @@ fn put_octets_object<A: Allocator + Copy>(
     if let Some(again) = memory.alike(octets) {
         if let Some(kept) = again.beside {
             if kept.in_object {
+                if kept.whole {
+                    let (live, sq_num) = (again.live, again.sq_num);
+                    return put_whole_object(line, counted, number, moment, kept, live, sq_num);
+                }
                 let frame = again.frame(octets);
                 if let ApduView::Goose(goose) = &frame.apdu {
                     return put_kept_object(line, counted, number, moment, kept, &frame, goose);
@@ -119,6 +151,7 @@ fn put_octets_object<A: Allocator + Copy>(
             }
         }
         keep_line(alloc, memory, true, octets);
+        return put_just_kept(memory, line, counted, number, moment, octets);
     }
     let viewed = view_frame(octets);
     match &viewed {
