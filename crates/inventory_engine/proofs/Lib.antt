@@ -8,3 +8,4 @@ pub mod BlockBack
 pub mod FirstBlocks
 pub mod SubscribedLines
 pub mod WorkedObjects
+pub mod KeptBlocks

@@ -5,3 +5,4 @@ pub mod KnownTexts
 pub mod ShownFields
 pub mod BlocksStep
 pub mod FirstBlocks
+pub mod KeptBlock

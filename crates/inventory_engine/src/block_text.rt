@@ -6,14 +6,16 @@ ghost use Rattle.std.specs.Str.{bytes_eq};
 ghost use Rattle.std.specs.Fmt.{decimal};
 ghost use Rattle.pdu_core.specs.Views.{octets_if, pdu_of};
 ghost use Rattle.text_core.specs.Afters.{IsAfter};
+ghost use Rattle.text_core.specs.Pieces.{AppendsText};
 ghost use Rattle.inventory_engine.specs.computed.PieceText.{piece_text};
 ghost use Rattle.inventory_engine.specs.computed.ShownFields.{configuration_shown};
 ghost use Rattle.inventory_engine.specs.Configuration.{configuration_of};
 ghost use Rattle.inventory_engine.specs.Sightings.{block_parts, block_text, has_fields as fields_are, named_parts, text_or_none};
 
-use crate::pieces::{Piece, after_decimal, after_digits, is_text};
+use crate::pieces::{Piece, after_decimal, after_digits, is_text, put_pieces};
 use block_core::commas::is_field;
 use pdu_core::GooseView;
+use std::alloc::{AllocError, Allocator};
 use text_core::following::{after, after_one};
 
 /// What a frame says of its control block: not its view, so that of this no more is kept at hand.
@@ -101,6 +103,20 @@ pub fn named_pieces<'a>(block: &ShownBlock<'a>) -> [Piece<'a>; 12]
         Piece::Octets(b" entries="),
         Piece::Decimal(block.entries as u64),
     ]
+}
+
+/// Appends the text of a control block.
+pub fn put_block_text<A: Allocator>(
+    out: &mut Vec<u8, A>,
+    block: &ShownBlock<'_>,
+) -> Result<(), AllocError>
+    ensures { AppendsText result out.old.items out.new.items (block_text (configuration_shown block.now)) }
+{
+    if has_fields(block) {
+        put_pieces(out, &block_pieces(block))
+    } else {
+        put_pieces(out, &named_pieces(block))
+    }
 }
 
 // What follows a comma and a text.

@@ -16,20 +16,24 @@ ghost use Rattle.inventory_engine.specs.BlocksText.{AreBlocksTexts, IsBlocksText
 ghost use Rattle.inventory_engine.specs.computed.BlocksStep.{Keeps, blocks_event};
 
 use crate::inventory::Inventory;
+use crate::kept_block::KeptBlock;
 use crate::sighting::put_event;
 use engine_core::{Ending, EventEngine, Stopped, Style, run_events};
 use known_core::Runs;
 use list_core::{Event, EventLines, InputFault, ItemReader, ReadItems, Sink, Source};
 use object_core::{Form, Heading, LastObject};
-use repeat_core::{FrameMemory, Nothing};
+use repeat_core::{Beside, FrameMemory};
 use std::alloc::{AllocError, Allocator};
 use text_core::LastLine;
 
 /// What `blocks` writes, and what was seen by then.
 #[derive(Drop)]
-struct Listing<A: Allocator> {
+struct Listing<A: Allocator>
+where
+    KeptBlock<A>: Beside,
+{
     alloc: A,
-    memory: FrameMemory<A, Nothing>,
+    memory: FrameMemory<A, KeptBlock<A>>,
     known: Inventory<A>,
 }
 

@@ -4,6 +4,7 @@
 mod block_text;
 mod engine;
 mod inventory;
+mod kept_block;
 mod known;
 pub mod laws;
 mod listed_block;

@@ -2,13 +2,11 @@
 
 ghost use Rattle.std.specs.Prelude.{◌≡◌, ◌∷◌, [], IfOk, Some, option_map};
 ghost use Rattle.block_core.specs.BlockText.{block_in, block_of};
-ghost use Rattle.text_core.specs.Pieces.{AppendsText};
 ghost use Rattle.inventory_engine.specs.ListedBlocks.{listed_of};
 ghost use Rattle.inventory_engine.specs.Sightings.{block_sighting, block_text};
 ghost use Rattle.inventory_engine.specs.computed.ShownFields.{configuration_shown};
 
-use crate::block_text::{ShownBlock, block_pieces, has_fields, named_pieces};
-use crate::pieces::put_pieces;
+use crate::block_text::{ShownBlock, put_block_text};
 use crate::sighting::put_name_fields;
 use ber_core::Octets;
 use block_core::Block;
@@ -24,20 +22,6 @@ pub struct ListedBlock<A: Allocator> {
     pub fields: Octets<A>,
     /// Whether the text is a BLOCK.
     pub is_named: bool,
-}
-
-// Appends the text of a control block.
-fn put_block_text<A: Allocator>(
-    out: &mut Vec<u8, A>,
-    block: &ShownBlock<'_>,
-) -> Result<(), AllocError>
-    ensures { AppendsText result out.old.items out.new.items (block_text (configuration_shown block.now)) }
-{
-    if has_fields(block) {
-        put_pieces(out, &block_pieces(block))
-    } else {
-        put_pieces(out, &named_pieces(block))
-    }
 }
 
 // The block that six fields say, in memory of its own.

@@ -12,6 +12,7 @@ ghost use Rattle.inventory_engine.specs.computed.ShownFields.{configuration_show
 
 use crate::block_text::{ShownBlock, block_shown};
 use crate::inventory::{Inventory, Sought};
+use crate::kept_block::KeptBlock;
 use crate::listed_block::ListedBlock;
 use crate::sighting::put_event;
 use block_core::Block;
@@ -20,7 +21,7 @@ use known_core::Runs;
 use list_core::{Event, EventKind, InputFault, ReadError, ReadItems};
 use object_core::{Form, Heading};
 use pdu_core::GooseView;
-use repeat_core::{FrameMemory, Nothing};
+use repeat_core::FrameMemory;
 use std::alloc::{AllocError, Allocator};
 
 /// The control blocks that were found in an input.
@@ -79,7 +80,7 @@ fn push_first<A: Allocator + Copy>(
 // Lists the control block that an event shows, where none is known by its key.
 fn push_shown<A: Allocator + Copy>(
     alloc: A,
-    memory: &mut FrameMemory<A, Nothing>,
+    memory: &mut FrameMemory<A, KeptBlock<A>>,
     known: &Inventory<A>,
     found: &mut FoundBlocks<A>,
     kind: &EventKind<A>,
@@ -102,7 +103,7 @@ fn push_shown<A: Allocator + Copy>(
 // together by its own call, and left.
 fn note_event<A: Allocator + Copy>(
     alloc: A,
-    memory: &mut FrameMemory<A, Nothing>,
+    memory: &mut FrameMemory<A, KeptBlock<A>>,
     known: &mut Inventory<A>,
     found: &mut FoundBlocks<A>,
     line: &mut Vec<u8, A>,
