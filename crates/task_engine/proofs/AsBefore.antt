@@ -1,5 +1,5 @@
 -- A task over the events of a list, asked for without options, leaves what the call of its command over a list does. No clause cites it.
-use Rattle.std.proofs.Common.{Option, Some, None, Ok, Err, ◌≡◌, ◌⊎◌, ℕ, Bool, false, List, [], ◌∷◌, inl, inr, ap, ap₂, sym, ◌∙◌, refl, subst}
+use Rattle.std.proofs.Common.{Option, Some, None, Ok, Err, ◌≡◌, ◌⊎◌, ℕ, Bool, List, [], ◌∷◌, inl, inr, ap, ap₂, sym, ◌∙◌, refl, subst}
 use Rattle.std.specs.Prelude.{option_map}
 use Rattle.std.specs.Global.{Global}
 use Rattle.list_core.specs.declared.device.InputEnd.{InputEnd}
@@ -30,7 +30,7 @@ use Rattle.exchange_engines.specs.declared.engines.replay.ReplayStop.{ReplayStop
 use Rattle.exchange_engines.specs.declared.engines.replay.ReplayStop.TheVariants as stops
 use Rattle.exchange_engines.specs.ReplayText.{ReplayWritesTo}
 use Rattle.exchange_engines.specs.WatchText.{IsWatchText}
-use Rattle.words_core.specs.CommandLine.{Asked, check, import, list_blocks, losses, publish, replay, rewrite, show, watch}
+use Rattle.words_core.specs.CommandLine.{Asked, check, list_blocks, losses, replay, show, watch}
 use Rattle.words_core.specs.declared.option_words.Options.{Options}
 use Rattle.words_core.proofs.Switches.{no_options}
 use Rattle.inventory_engine.proofs.Newest.{in_lines}
@@ -41,7 +41,7 @@ use Rattle.loss_engine.specs.LossWants.{WritesLosses, written_pieces}
 use Rattle.loss_engine.proofs.LossesTold.{losses_told}
 use Rattle.task_engine.specs.declared.stop.Stop.{Stop}
 use Rattle.task_engine.specs.EventTasks.{Ended, StopsBy, plain_work}
-use Rattle.task_engine.specs.InputText.{EventsTell, InputTells, Tells, changes_of, list_events, list_last, of_list, of_stop}
+use Rattle.task_engine.specs.InputText.{EventsTell, Tells, changes_of, list_events, list_last, of_list, of_stop}
 use Rattle.task_engine.specs.RequestText.{LeavesText, RequestWrites}
 use Rattle.task_engine.proofs.EventTaskLemmas.{input_told}
 use Rattle.unwrap_core.specs.UnwrapEvents.{change_event}
@@ -61,10 +61,7 @@ WroteBefore check end told = Tells of_list (EventsLeft check_text end) told
 WroteBefore list_blocks end told = Tells of_list (λ fault. OfKind (IsBlocksText {A = Global}) (λ t. EventsLeft t end fault)) told
 WroteBefore (replay blocks) end told = Tells (of_stop of_list) (λ by. ReplayWritesTo blocks end.ending by end.source end.read end.old end.new) told
 WroteBefore (watch period id) end told = Tells of_list (λ fault. OfKind (IsWatchText {A = Global} period id) (λ t. EventsLeft t end fault)) told
-WroteBefore (losses periods) end told = InputTells false plain (styles.Lines Lines) (plain_work (losses periods)) end told
-WroteBefore rewrite end told = RequestWrites (plain) rewrite end told
-WroteBefore publish end told = RequestWrites (plain) publish end told
-WroteBefore import end told = RequestWrites (plain) import end told
+WroteBefore asked end told = RequestWrites (plain) asked end told
 
 -- ---- an input of which nothing is made
 
@@ -141,22 +138,12 @@ by_task (replay blocks) end told (why, inr (inr ran), is) =
       })),
       is,
     )
-by_task (losses periods) end told w = w
-by_task rewrite end told w = w
-by_task publish end told w = w
-by_task import end told w = w
+by_task _ end told w = w
 
 -- without options a task leaves what it was said to leave of a list
 pub as_before : (asked : Asked) (end : Ended) (told : Option Stop) (is_raw : Bool) → RequestWrites (record no_options { is_raw = is_raw }) asked end told → WroteBefore asked end told
 as_before show end told is_raw w = by_task show end told w
-as_before check end told is_raw w = by_task check end told w
-as_before rewrite end told is_raw w = by_task rewrite end told w
-as_before list_blocks end told is_raw w = by_task list_blocks end told w
-as_before (replay blocks) end told is_raw w = by_task (replay blocks) end told w
-as_before publish end told is_raw w = by_task publish end told w
-as_before (watch period id) end told is_raw w = by_task (watch period id) end told w
-as_before import end told is_raw w = by_task import end told w
-as_before (losses periods) end told is_raw w = by_task (losses periods) end told w
+as_before asked end told is_raw w = by_task asked end told w
 
 -- what a task leaves that tells losses, of whatever input, it leaves piece by piece as it was said to
 pub losses_as_before : {C F : Type 0} (of : F → Stop) (style : Style) (periods : List Period) (input : Input (Event Global) C F) (last : FaultText F) (end : Ended) (told : Option Stop) → ArePeriods periods → EventsTell of style (plain_work (losses periods)) input last end told →

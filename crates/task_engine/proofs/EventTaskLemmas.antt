@@ -1,35 +1,28 @@
 -- What a task over a reader of events leaves of the input that it reads.
-use Rattle.std.proofs.Common.{Option, Some, None, Err, ◌≡◌, ℕ, Bool, true, false, List, [], inl, inr, sym, refl, subst}
+use Rattle.std.proofs.Common.{Option, Some, None, Err, ◌≡◌, ℕ, List, [], inl, inr, sym, refl, subst}
 use Rattle.std.specs.Prelude.{option_map}
 use Rattle.std.specs.Global.{Global}
 use Rattle.list_core.specs.declared.device.InputEnd.{InputEnd}
 use Rattle.list_core.specs.declared.device.InputEnd.TheVariants.{Failed, Open}
 use Rattle.list_core.specs.declared.event.Event.{Event}
-use Rattle.list_core.specs.declared.event_lines.EventLines.TheVariants.{First}
 use Rattle.list_core.specs.Device.{GivesOctets}
-use Rattle.list_core.specs.EventLine.{event_rules}
 use Rattle.list_core.specs.ReadItems.{AnswerOf}
 use Rattle.engine_core.specs.declared.ending.Ending.{Ending}
 use Rattle.engine_core.specs.declared.ending.Ending.TheVariants.{ReadFault}
 use Rattle.engine_core.specs.declared.stopped.Stopped.{Stopped}
 use Rattle.engine_core.specs.declared.style.Style.{Style}
-use Rattle.engine_core.specs.CaptureRun.{capture_input}
 use Rattle.engine_core.specs.EventsText.{FaultText}
 use Rattle.engine_core.specs.Input.{Faults, GaveThen, Input, IsRead, Reader}
-use Rattle.engine_core.specs.Run.{list_input}
 use Rattle.engine_core.specs.RunOver.{LeavesSo, stopped_at}
 use Rattle.engine_core.proofs.InputRuns.{GivenSo, input_run, none_given}
 use Rattle.engine_core.proofs.ReadFaults.{Blames, source_failed}
 use Rattle.exchange_engines.specs.declared.engines.replay.ReplayManner.{ReplayManner}
 use Rattle.exchange_engines.specs.declared.engines.replay.ReplayStop.{ReplayStop}
 use Rattle.exchange_engines.specs.declared.engines.replay.ReplayStop.TheVariants as why
-use Rattle.words_core.specs.CommandLine.{Asked, check, list_blocks, losses, replay, show, watch}
-use Rattle.words_core.specs.declared.option_words.Options.{Options}
+use Rattle.words_core.specs.CommandLine.{Asked, import, publish, replay, rewrite}
 use Rattle.task_engine.specs.declared.stop.Stop.{Stop}
-use Rattle.task_engine.specs.declared.stop.Stop.TheVariants as stop
 use Rattle.task_engine.specs.EventTasks.{Ended, Left, OverWrites, Settles, StopsBy, TaskLeaves, TextLeft, Work, allowed_by, ended, left_of, left_over}
-use Rattle.task_engine.specs.InputText.{EventsTell, InputTells, capture_last, list_last, of_list, of_stop, looked_where}
-use Rattle.task_engine.specs.RequestText.{EventsWrite, style_of}
+use Rattle.task_engine.specs.InputText.{EventsTell, of_stop}
 
 -- what is left so, a task leaves so too
 module _ {F : Type 0} (style : Style) (a : Left F) (b : List ℕ → Left F) (first last : Option (List ℕ)) (ending : Ending) (why : Option (ReplayStop F)) (old new : Option (List ℕ))
@@ -68,13 +61,10 @@ module _ {F : Type 0} {P : Type 0} (style : Style) (left : Left F) (ending : End
 
 -- no event is refused
 pub none_refused : {C F : Type 0} (style : Style) (last : FaultText F) (asked : Asked) (it : Settles asked) (before : List (ℕ × Event Global)) (e : ℕ × Event Global) (why : C) → (allowed_by {C = C} style last asked it).of_item before e (Err why) → ⊥
-none_refused style last show it before e why is = is
-none_refused style last check it before e why is = is
-none_refused style last list_blocks it before e why is = is
-none_refused style last (replay blocks) it before e why is = is
-none_refused style last (watch period id) it before e why is = is
-none_refused style last (losses periods) it before e why is = is
-none_refused style last _ it before e why is = absurd it
+none_refused style last rewrite it before e why is = absurd it
+none_refused style last publish it before e why is = absurd it
+none_refused style last import it before e why is = absurd it
+none_refused style last _ it before e why is = is
 
 -- ---- a reader of an input
 
@@ -96,19 +86,6 @@ pub events_failed : {C F : Type 0} (of : F → Stop) (style : Style) (work : Wor
 events_failed of style work input last end told blames t = task_any style (left_of style input last end) end.ending t.0 end.old end.new
     (λ fault asked it run. source_failed input (allowed_by style last asked it) end.ending fault end.source end.read end.old end.new blames (λ before e why no. absurd (none_refused style last asked it before e why no)) run)
     (λ u no e. absurd (no e)) work.manner work.asked t.1
-
--- ---- options
-
--- what is told by options, of which it is known whether they ask for a capture, and whether frames are passed over
-pub capture_by : (options : Options) (skips : Bool) (work : Work) (end : Ended) (told : Option Stop) → options.is_capture ≡ true → options.skips_other ≡ skips →
-    EventsTell stop.Packet (style_of options) work (looked_where skips options capture_input) capture_last end told → EventsWrite options work end told
-capture_by options skips work end told i k w =
-    subst (λ (b : Bool). InputTells b options (style_of options) work end told) (sym i) (subst (λ (b : Bool). EventsTell stop.Packet (style_of options) work (looked_where b options capture_input) capture_last end told) (sym k) w)
-
-pub list_by : (options : Options) (skips : Bool) (work : Work) (end : Ended) (told : Option Stop) → options.is_capture ≡ false → options.skips_other ≡ skips →
-    EventsTell of_list (style_of options) work (looked_where skips options (list_input event_rules First)) list_last end told → EventsWrite options work end told
-list_by options skips work end told i k w =
-    subst (λ (b : Bool). InputTells b options (style_of options) work end told) (sym i) (subst (λ (b : Bool). EventsTell of_list (style_of options) work (looked_where b options (list_input event_rules First)) list_last end told) (sym k) w)
 
 -- the fault of the input of a run that stops by nothing else is told
 pub input_told : {F : Type 0} (of : F → Stop) (fault : Option F) → option_map (of_stop of) (option_map why.Input fault) ≡ option_map of fault

@@ -44,16 +44,12 @@ module _ (a c : PacketState) (items : List (ℕ × Event Global)) (answer : Pack
   all_read h = stops answer refl h
     where
       stops : (o : PacketAnswer Global) → answer ≡ o → TellsStop o → length whole.items ≤ length items
-      stops (Ok None) is h =
-          let r = ran.reads [] c.ending (CanFollow-none c.ending) in
-          let tells = subst (λ (o : PacketAnswer Global). TellsPacket o r.0 (events_behind c c.ending [])) is r.2 in
-          ends_there r.0 r.1 (ap (λ (l : Numbered (Event Global) CaptureFault). l.items) tells.0)
       stops (Ok (Some e)) is h = absurd h
-      stops (Err (Some f)) is h =
+      stops (Err None) is h = absurd h
+      stops o is h =
           let r = ran.reads [] c.ending (CanFollow-none c.ending) in
           let tells = subst (λ (o : PacketAnswer Global). TellsPacket o r.0 (events_behind c c.ending [])) is r.2 in
           ends_there r.0 r.1 (ap (λ (l : Numbered (Event Global) CaptureFault). l.items) tells.0)
-      stops (Err None) is h = absurd h
 
   -- the packets of the events, and none behind them
   counted_so : (ending : Ending) (onward : Numbered Packet CaptureFault) (first : CountedFirst a items whole onward c.other_links) → (ReadsAll ending → TellsStop answer) → CountsLinks whole ending (ReachesInCapture ran.given) c.other_links
@@ -98,10 +94,7 @@ module _ (a c : PacketState) (items : List (ℕ × Event Global)) (answer : Pack
           CountsLinks whole ending (ReachesInCapture ran.given) c.other_links
       by (Ok (Some e)) is onward tally first counts =
           counted_more ending onward _ tally e first (subst (λ (o : PacketAnswer Global). CountsPacket o onward (packets_behind c c.ending []) tally c.other_links) is counts) (λ r. subst (λ (o : PacketAnswer Global). TellsStop o) is (stop r))
-      by (Ok None) is onward tally first counts =
-          let same = subst (λ (o : PacketAnswer Global). CountsPacket o onward (packets_behind c c.ending []) tally c.other_links) is counts in
-          counted_so ending onward (subst (λ (t : Tally). CountedFirst a items whole onward t) (sym same) first) stop
-      by (Err f) is onward tally first counts =
+      by o is onward tally first counts =
           let same = subst (λ (o : PacketAnswer Global). CountsPacket o onward (packets_behind c c.ending []) tally c.other_links) is counts in
           counted_so ending onward (subst (λ (t : Tally). CountedFirst a items whole onward t) (sym same) first) stop
 

@@ -49,14 +49,13 @@ passes_by {F} l es (Ok (Some e)) ending Far tally first all far more is =
       far = subst Far (sym (length-append es (e ∷ []))) more;
       is_tally = is ∙ passed_push es e no_tally ∙ ap (λ (xs : List (ℕ × Event Global)). count_all (passed_in xs) no_tally) (sym (ap (take (length (es ++ e ∷ []))) items ∙ take_front (es ++ e ∷ []) first.2.0.items));
     }
-passes_by {F} l es (Ok None) ending Far tally first all far more is = at_end l es ending Far tally (ap (λ (m : Numbered (Event Global) F). m.items) first.1 ∙ ap (λ (m : Numbered (Event Global) F). es ++ m.items) first.2 ∙ append-nil es) far is
-passes_by {F} l es (Err (Some f)) ending Far tally first all far more is = at_end l es ending Far tally (ap (λ (m : Numbered (Event Global) F). m.items) first.1 ∙ ap (λ (m : Numbered (Event Global) F). es ++ m.items) first.2 ∙ append-nil es) far is
 passes_by {F} l es (Err None) ending Far tally first all far more is = record {
   read = length es;
   all = λ r. absurd (all r);
   far = far;
   is_tally = is ∙ ap (λ (xs : List (ℕ × Event Global)). count_all (passed_in xs) no_tally) (sym (ap (take (length es)) (ap (λ (m : Numbered (Event Global) F). m.items) first.1) ∙ take_front es first.0.items));
 }
+passes_by {F} l es raw ending Far tally first all far more is = at_end l es ending Far tally (ap (λ (m : Numbered (Event Global) F). m.items) first.1 ∙ ap (λ (m : Numbered (Event Global) F). es ++ m.items) first.2 ∙ append-nil es) far is
 
 -- nothing was read
 pub passes_none : {F : Type 0} (l : Numbered (Event Global) F) (ending : Ending) (Far : ℕ → Type 0) (tally : Tally) → l.items ≡ [] → Far 0 → tally ≡ no_tally → PassesOver l ending Far tally

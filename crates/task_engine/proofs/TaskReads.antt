@@ -66,21 +66,21 @@ module _ {I C F : Type 0} (reader : Reader I (Event Global) C F) (last : FaultTe
 
 module _ {I C F : Type 0} (reader : Reader I (Event Global) C F) (look : Look C F) (state : I → InputState) (start : I) (looks : LooksFrom reader look state start) (of : F → Stop) (last : FaultText F) (style : Style) (work : Work)
     (stopped : Stopped I (ReplayStop F)) (old new : Option (List ℕ)) (w : OverWrites style work reader last start stopped old new) where
-  -- a task over it leaves that of its input, and stops for the same
-  pub over_look : GivenSo (state start).left (state stopped.reader).left
-      (λ given. EventsTell of style work look.input last (ended stopped.ending (state stopped.reader).source given old new) (option_map (of_stop of) stopped.fault))
+  -- a task over it leaves that of its input, and stops for the same; it ends by a read fault only where the source failed; and what is kept of frames passed over, and of packets that were not captured on Ethernet, is what is handed out
+  pub record OverLook : Type 0 where
+    pub text : GivenSo (state start).left (state stopped.reader).left (λ given. EventsTell of style work look.input last (ended stopped.ending (state stopped.reader).source given old new) (option_map (of_stop of) stopped.fault))
+    pub failed : stopped.ending ≡ ReadFault → (state stopped.reader).source ≡ Failed
+    pub passes : look.passes stopped.ending (state stopped.reader).source (state start).left (state stopped.reader).left (state stopped.reader).passed
+    pub links : look.links stopped.ending (state stopped.reader).source (state start).left (state stopped.reader).left (state stopped.reader).links
+
+  pub over_look : OverLook
   over_look =
       let r = over_input reader look.input looks.faults (λ s. (state s).left) (λ s. (state s).source) last start stopped old new looks.is_open
       (λ items answer gave. looks.reads stopped.reader items answer gave) style work w in
-      (r.0, r.1, (stopped.fault, r.2, refl))
-
-  -- it ends by a read fault only where the source failed
-  pub look_failed : stopped.ending ≡ ReadFault → (state stopped.reader).source ≡ Failed
-  look_failed is = events_failed of style work look.input last (ended stopped.ending (state stopped.reader).source over_look.0 old new) (option_map (of_stop of) stopped.fault) looks.blames over_look.2 is
-
-  -- and what is kept of frames passed over, and of packets that were not captured on Ethernet, is what is handed out
-  pub look_passes : look.passes stopped.ending (state stopped.reader).source (state start).left (state stopped.reader).left (state stopped.reader).passed
-  look_passes = looks.passes stopped.reader stopped.ending (reads reader last start stopped style old new work w)
-
-  pub look_links : look.links stopped.ending (state stopped.reader).source (state start).left (state stopped.reader).left (state stopped.reader).links
-  look_links = looks.links stopped.reader stopped.ending (reads reader last start stopped style old new work w)
+      let either = reads reader last start stopped style old new work w in
+      record {
+        text = (r.0, r.1, (stopped.fault, r.2, refl));
+        failed = events_failed of style work look.input last (ended stopped.ending (state stopped.reader).source r.0 old new) (option_map (of_stop of) stopped.fault) looks.blames (stopped.fault, r.2, refl);
+        passes = looks.passes stopped.reader stopped.ending either;
+        links = looks.links stopped.reader stopped.ending either;
+      }

@@ -81,19 +81,14 @@ pub fn of_script<R: Source>(
     ensures passed { result.passed ≡ None }
     ensures links { result.other_links ≡ None }
 {
-    let Stopped {
-        ending,
-        fault,
-        reader,
-    } = stopped;
-    let told = match fault {
+    let told = match stopped.fault {
         Some(fault) => {
             let line = line_of(&fault);
-            Some(Told::of_line(Stop::Script(fault), line, &reader))
+            Some(Told::of_line(Stop::Script(fault), line, &stopped.reader))
         }
         None => None,
     };
-    Performed::of_reader(ending, told, reader.into_reader())
+    Performed::of_reader(stopped.ending, told, stopped.reader.into_reader())
 }
 
 // What a task leaves that ran over a list.
@@ -108,16 +103,11 @@ pub fn of_list<R: Source>(
     ensures passed { result.passed ≡ None }
     ensures links { result.other_links ≡ None }
 {
-    let Stopped {
-        ending,
-        fault,
-        reader,
-    } = stopped;
-    let told = match fault {
-        Some(fault) => Some(Told::of_list(&fault, &reader)),
+    let told = match stopped.fault {
+        Some(fault) => Some(Told::of_list(&fault, &stopped.reader)),
         None => None,
     };
-    Performed::of_reader(ending, told, reader.into_reader())
+    Performed::of_reader(stopped.ending, told, stopped.reader.into_reader())
 }
 
 // What a task leaves that read a capture.
@@ -129,16 +119,11 @@ pub fn of_capture<R>(stopped: Stopped<R, CaptureFault>) -> Performed<R>
     ensures passed { result.passed ≡ None }
     ensures links { result.other_links ≡ None }
 {
-    let Stopped {
-        ending,
-        fault,
-        reader,
-    } = stopped;
-    let told = match fault {
+    let told = match stopped.fault {
         Some(fault) => Some(Told::at(Stop::Capture(fault), b"")),
         None => None,
     };
-    Performed::of_reader(ending, told, reader)
+    Performed::of_reader(stopped.ending, told, stopped.reader)
 }
 
 // What is told of why a task over events stopped.

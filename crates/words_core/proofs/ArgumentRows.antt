@@ -1,8 +1,9 @@
 -- What rows hold of arguments: under each name the texts that were given so, in their order.
-use Rattle.std.proofs.Common.{◌≡◌, ◌∙◌, ◌≤◌, ◌⊎◌, Bool, true, false, true≢false, List, [], ◌∷◌, ◌++◌, length, Option, Some, None, is_some, option_map, unwrap_or, inl, inr, refl, sym, ap, subst, arith}
+use Rattle.std.proofs.Common.{◌≡◌, ◌∙◌, ◌≤◌, ◌⊎◌, Bool, true, false, true≢false, List, [], ◌∷◌, ◌++◌, length, Option, Some, None, is_some, option_map, unwrap_or, inl, inr, refl, sym, ap, subst, arith, length-append}
 use Rattle.std.specs.Prelude.{codes}
 use Rattle.std.specs.List.{list_all}
 use Rattle.std.specs.Str.{bytes_eq}
+use Rattle.std.proofs.lemmas.List.{append-nil}
 use Rattle.std.proofs.lemmas.Slice.Eq.{bytes_eq-Decides}
 use Rattle.clap.specs.Words.{Row, Shape, Text}
 use Rattle.clap.specs.Walk.{arg_by_id, has_row, reading_by, stronger, with_values, without}
@@ -45,15 +46,11 @@ none_before done rest a once = go (given_as (argument_name a) done) refl
     all : given_as (argument_name a) (done ++ a ∷ rest) ≡ given_as (argument_name a) done ++ (argument_text a ∷ given_as (argument_name a) rest)
     all = given_append (argument_name a) done (a ∷ rest) ∙ ap (λ (l : List Text). given_as (argument_name a) done ++ l) own
 
-    longer : (xs : List Text) (y : Text) (ys : List Text) → 1 ≤ length (xs ++ y ∷ ys)
-    longer [] y ys = omega arith
-    longer (x ∷ xs) y ys = omega arith
-
     go : (l : List Text) → given_as (argument_name a) done ≡ l → l ≡ []
     go [] e = refl
     go (x ∷ xs) e =
         let size = ap length (all ∙ ap (λ (k : List Text). k ++ (argument_text a ∷ given_as (argument_name a) rest)) e) in
-        let more = longer xs (argument_text a) (given_as (argument_name a) rest) in
+        let more = length-append (x ∷ xs) (argument_text a ∷ given_as (argument_name a) rest) in
         absurd (omega (arith, once, size, more))
 
 -- ---- what rows hold
@@ -115,10 +112,6 @@ hold_more s rows done a appends may hold id = go (bytes_eq (argument_name a) id)
     more : given_as id (done ++ a ∷ []) ≡ given_as id done ++ with_text (bytes_eq (argument_name a) id) (argument_text a) []
     more = given_append id done (a ∷ []) ∙ ap (λ (l : List Text). given_as id done ++ l) (given_first id a [])
 
-    nil : (l : List Text) → l ≡ l ++ []
-    nil [] = refl
-    nil (x ∷ xs) = ap (λ (l : List Text). x ∷ l) (nil xs)
-
     own : row_at (argument_name a) (puts appends (argument_name a) (how_read s (argument_name a)) (argument_text a) rows)
         ≡ row_for (argument_name a) (how_read s (argument_name a)) (given_as (argument_name a) done ++ argument_text a ∷ [])
     own = own_row appends (argument_name a) (how_read s (argument_name a)) (argument_text a) (given_as (argument_name a) done) rows (hold (argument_name a)) may
@@ -130,7 +123,7 @@ hold_more s rows done a appends may hold id = go (bytes_eq (argument_name a) id)
         ∙ ap (row_for id (how_read s id)) (sym (more ∙ ap (λ (b : Bool). given_as id done ++ with_text b (argument_text a) []) t))
     go false t =
         other_row appends (argument_name a) id (how_read s (argument_name a)) (argument_text a) rows t ∙ hold id
-        ∙ ap (row_for id (how_read s id)) (nil (given_as id done) ∙ sym (more ∙ ap (λ (b : Bool). given_as id done ++ with_text b (argument_text a) []) t))
+        ∙ ap (row_for id (how_read s id)) (sym (append-nil (given_as id done)) ∙ sym (more ∙ ap (λ (b : Bool). given_as id done ++ with_text b (argument_text a) []) t))
 
 -- what is not given has no row
 pub no_row : (s : Shape) (rows : List Row) (done : List Argument) (id : Text) → Hold s rows done → given_as id done ≡ [] → has_row id rows ≡ false

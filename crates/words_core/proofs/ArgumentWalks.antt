@@ -1,23 +1,23 @@
 -- Arguments lead a walk over their words from rows that hold those before to rows that hold them too.
 use Rattle.std.proofs.Common.{◌≡◌, ◌∙◌, ◌+◌, ◌≤◌, ◌⊎◌, ◌==◌, ℕ, zero, suc, Bool, true, false, not, true≢false, List, [], ◌∷◌, ◌++◌, length, Some, None, inl, inr, refl, sym, ap, subst, arith, append_assoc, length-append}
-use Rattle.std.specs.Prelude.{codes, fold, if◌then◌else◌}
+use Rattle.std.specs.Prelude.{codes, fold, if◌then◌else◌, nat_lt}
 use Rattle.std.specs.List.{list_all}
 use Rattle.std.specs.Str.{bytes_eq, chars}
 use Rattle.std.specs.Char.{encode_utf8}
 use Rattle.std.proofs.lemmas.List.{append-nil}
 use Rattle.std.proofs.lemmas.List.Sums.{fold-append}
-use Rattle.clap.specs.Lexer.{usize_max}
+use Rattle.clap.specs.Lexer.{long_of, usize_max}
 use Rattle.clap.specs.Words.{Row, Rule, Shape, Text}
 use Rattle.clap.specs.Takes.{default_passes, flags_pass, is_valid, level_passes, settle_passes, turn_passes, use_passes, walk_passes}
 use Rattle.clap.specs.declared.builder.value_parser.Reading.{Reading}
 use Rattle.clap.proofs.WalkLemmas.{both}
 use Rattle.std.proofs.lemmas.Slice.Eq.{bytes_eq-Decides}
-use Rattle.clap.specs.Walk.{Held, Waiting, Walk, arg_by_id, arg_by_long, arg_by_short, bundle_met, finished, has_row, idle, nothing_held, option, positional, reading_by, rows_after, used, walk, walk_from, walked, with_default}
+use Rattle.clap.specs.Walk.{Held, Waiting, Walk, arg_by_id, arg_by_long, arg_by_short, bundle_met, finished, has_row, idle, most_values, nothing_held, option, pending_count, reading_by, rows_after, takes_values, used, walk, walk_from, walked, with_default}
 use Rattle.words_core.specs.CommandLine.{IsValue, SaysOption, is_flag}
 use Rattle.words_core.specs.RequestLine.{Argument, SayAll, Says, SaysByLetter, Switch, argument_name, argument_text, file, given_as, is_attached, is_set, switch_name}
 use Rattle.words_core.proofs.ArgumentRows.{Hold, are_true, hold_more, how_read, no_row, none_before, puts, row_for}
 use Rattle.words_core.proofs.OptionRows.{read_flag, set_by, switch_flag}
-use Rattle.words_core.proofs.OptionWalks.{Pending, between, both_true, dashes, held, passes_behind, settled_to, settles, state}
+use Rattle.words_core.proofs.OptionWalks.{Pending, between, both_true, dashes, held, meets_none, passes_behind, settled_to, settles, state}
 use Rattle.words_core.proofs.PlainWords.{IsEnd}
 
 -- ---- where a walk stands
@@ -46,6 +46,11 @@ pub record Went (s : Shape) (w : Walk) (words : List Text) (rows_so : List Row) 
   pub stands : Stands s (fold (walked s.rules []) w words) rows_so n
   pub passes : walk_passes s [] w words ≡ true
 
+pub went_to : (s : Shape) (w : Walk) (words : List Text) (waiting : Waiting) (rows : List Row) (pending : Pending) (rows_so : List Row) (n : ℕ) → is_free waiting ≡ true → fold (walked s.rules []) w words ≡ state waiting rows pending
+    → settled_to s rows pending ≡ rows_so → settles s rows pending ≡ true → size_of pending ≤ n → walk_passes s [] w words ≡ true → Went s w words rows_so n
+went_to s w words waiting rows pending rows_so n free is settled settling few passes =
+    record { stands = record { waiting = waiting; rows = rows; pending = pending; is = is; free = free; settled = settled; settling = settling; few = few }; passes = passes }
+
 -- ---- an argument with a text, in one word or in two
 
 pub record Joins (s : Shape) (a : Rule) (t word : Text) : Type 0 where
@@ -68,37 +73,18 @@ joined_goes : (s : Shape) (a : Rule) (t word : Text) → Joins s a t word → (w
 unfolding walk_passes
 joined_goes s a t word j w rows_so n st pass =
     let pass_here = subst (λ (r : List Row). use_passes false a (t ∷ []) r ≡ true) (sym st.settled) pass in
-    record {
-      stands = record {
-        waiting = idle;
-        rows = used a (t ∷ []) (settled_to s st.rows st.pending);
-        pending = None;
-        is = ap (λ (x : Walk). walked s.rules [] x word) st.is ∙ j.walks st.waiting st.rows st.pending;
-        free = refl;
-        settled = ap (used a (t ∷ [])) st.settled;
-        settling = refl;
-        few = omega arith;
-      };
-      passes = both_true _ _ (subst (λ (x : Walk). turn_passes s [] x word ≡ true) (sym st.is) (j.passes st.waiting st.rows st.pending st.settling pass_here)) refl;
-    }
+    went_to s w (word ∷ []) idle (used a (t ∷ []) (settled_to s st.rows st.pending)) None (used a (t ∷ []) rows_so) (n + 1) refl
+    (ap (λ (x : Walk). walked s.rules [] x word) st.is ∙ j.walks st.waiting st.rows st.pending) (ap (used a (t ∷ [])) st.settled) refl (omega arith)
+    (both_true _ _ (subst (λ (x : Walk). turn_passes s [] x word ≡ true) (sym st.is) (j.passes st.waiting st.rows st.pending st.settling pass_here)) refl)
 
 announced_goes : (s : Shape) (a : Rule) (t word : Text) → Announces s a t word → (w : Walk) (rows_so : List Row) (n : ℕ) → Stands s w rows_so n → use_passes false a (t ∷ []) rows_so ≡ true
     → Went s w (word ∷ t ∷ []) (used a (t ∷ []) rows_so) (n + 2)
 announced_goes s a t word j w rows_so n st pass =
     let pass_here = subst (λ (r : List Row). use_passes false a (t ∷ []) r ≡ true) (sym st.settled) pass in
-    record {
-      stands = record {
-        waiting = idle;
-        rows = settled_to s st.rows st.pending;
-        pending = Some (a.id, t ∷ []);
-        is = ap (λ (x : Walk). walked s.rules [] (walked s.rules [] x word) t) st.is ∙ j.walks st.waiting st.rows st.pending;
-        free = refl;
-        settled = j.settled (settled_to s st.rows st.pending) ∙ ap (used a (t ∷ [])) st.settled;
-        settling = j.settling (settled_to s st.rows st.pending) pass_here;
-        few = omega arith;
-      };
-      passes = subst (λ (x : Walk). walk_passes s [] x (word ∷ t ∷ []) ≡ true) (sym st.is) (j.passes st.waiting st.rows st.pending st.settling);
-    }
+    let rows = settled_to s st.rows st.pending in
+    went_to s w (word ∷ t ∷ []) idle rows (Some (a.id, t ∷ [])) (used a (t ∷ []) rows_so) (n + 2) refl
+    (ap (λ (x : Walk). walked s.rules [] (walked s.rules [] x word) t) st.is ∙ j.walks st.waiting st.rows st.pending) (j.settled rows ∙ ap (used a (t ∷ [])) st.settled) (j.settling rows pass_here) (omega arith)
+    (subst (λ (x : Walk). walk_passes s [] x (word ∷ t ∷ []) ≡ true) (sym st.is) (j.passes st.waiting st.rows st.pending st.settling))
 
 pub spelled_goes : (s : Shape) (a : Rule) (t : Text) (words : List Text) → Spelled s a t words → (w : Walk) (rows_so : List Row) (n : ℕ) → Stands s w rows_so n → use_passes false a (t ∷ []) rows_so ≡ true
     → Went s w words (used a (t ∷ []) rows_so) (n + length words)
@@ -147,68 +133,69 @@ announces s a word w t settled settling v = record {
   settling = settling;
 }
 
+-- ---- an option by its name
+
+-- a command has an option with one value by this name
+pub record IsNamed (s : Shape) (a : Rule) (name : Text) : Type 0 where
+  pub again : s.args_override_self ≡ false
+  pub by_long : arg_by_long s.rules name ≡ Some a
+  pub by_id : arg_by_id s.rules a.id ≡ Some a
+  pub takes : takes_values a ≡ true
+  pub single : (t : Text) → nat_lt (pending_count a (Some (a.id, t ∷ []))) (most_values a) ≡ false
+  pub alone : (bytes_eq (codes "--" ++ name) dashes ≡ false) × (long_of (codes "--" ++ name) ≡ Some (name, None))
+  pub joined : (t : Text) → (bytes_eq (codes "--" ++ name ++ (61 ∷ t)) dashes ≡ false) × (long_of (codes "--" ++ name ++ (61 ∷ t)) ≡ Some (name, Some t))
+
+module _ (s : Shape) (a : Rule) (name : Text) (n : IsNamed s a name) where
+  named_joins : (t : Text) → Joins s a t (codes "--" ++ name ++ (61 ∷ t))
+  unfolding walked
+  named_joins t = record {
+    walks = λ waiting rows pending. rw (meets_none waiting (codes "--" ++ name ++ (61 ∷ t)), (n.joined t).0, (n.joined t).1, n.by_long, n.takes) refl;
+    passes = λ waiting rows pending k u. rw (meets_none waiting (codes "--" ++ name ++ (61 ∷ t)), (n.joined t).0, (n.joined t).1, n.by_long, n.takes, n.again, k, u) refl;
+  }
+
+  pub named_waits : Waits s a (codes "--" ++ name)
+  unfolding walked
+  named_waits = record {
+    named = λ waiting rows pending. rw (meets_none waiting (codes "--" ++ name), n.alone.0, n.alone.1, n.by_long, n.takes) refl;
+    passes = λ waiting rows pending k. rw (meets_none waiting (codes "--" ++ name), n.alone.0, n.alone.1, n.by_long, n.takes, n.again, k) refl;
+    empty = λ rows. (rw (n.by_id, n.single []) refl, refl);
+    plain = λ c cs e rows. (rw (e, e, n.by_id, n.single (c ∷ cs)) refl, rw (n.again, e, e) refl);
+    hyphen = λ rows. (rw (n.by_id, n.single (45 ∷ [])) refl, refl);
+  }
+
+  pub waits_announce : (word : Text) → Waits s a word → (t : Text) → IsValue t → Announces s a t word
+  waits_announce word w t = announces s a word w t (λ rows. rw n.by_id refl) (λ rows u. rw n.by_id u)
+
+  -- each spelling by the name
+  pub named_spelled : (t : Text) (words : List Text) → SaysOption (codes "--" ++ name) t words → Spelled s a t words
+  named_spelled t = says_option s a (codes "--" ++ name) t (named_joins t) (waits_announce (codes "--" ++ name) named_waits t)
+
 -- ---- the name of a file
 
-module _ (s : Shape) (by_long : arg_by_long s.rules (codes "read") ≡ Some read_flag) (by_short : arg_by_short s.rules 114 ≡ Some read_flag)
-    (by_id : arg_by_id s.rules (codes "read") ≡ Some read_flag) (again : s.args_override_self ≡ false) where
-  long_joins : (t : Text) → Joins s read_flag t (codes "--read" ++ (61 ∷ t))
-  unfolding walked
-  long_joins t = record { walks = walks; passes = passes }
-    where
-      walks : (waiting : Waiting) (rows : List Row) (pending : Pending) → walked s.rules [] (state waiting rows pending) (codes "--read" ++ (61 ∷ t)) ≡ between (used read_flag (t ∷ []) (settled_to s rows pending)) None
-      walks idle rows pending = rw by_long refl
-      walks (option id) rows pending = rw by_long refl
-      walks positional rows pending = rw by_long refl
+-- the facts on a command by which it has the name of a file
+pub record Reads (s : Shape) : Type 0 where
+  pub by_long : arg_by_long s.rules (codes "read") ≡ Some read_flag
+  pub by_short : arg_by_short s.rules 114 ≡ Some read_flag
+  pub by_id : arg_by_id s.rules (codes "read") ≡ Some read_flag
+  pub again : s.args_override_self ≡ false
 
-      passes : (waiting : Waiting) (rows : List Row) (pending : Pending) → settles s rows pending ≡ true → use_passes false read_flag (t ∷ []) (settled_to s rows pending) ≡ true
-          → turn_passes s [] (state waiting rows pending) (codes "--read" ++ (61 ∷ t)) ≡ true
-      passes idle rows pending k u = rw by_long (rw again (rw (k, u) refl))
-      passes (option id) rows pending k u = rw by_long (rw again (rw (k, u) refl))
-      passes positional rows pending k u = rw by_long (rw again (rw (k, u) refl))
-
-  long_waits : Waits s read_flag (codes "--read")
-  unfolding walked
-  long_waits = record { named = named; passes = passes; empty = λ rows. (rw by_id refl, refl); plain = λ c cs e rows. (rw e (rw e (rw by_id refl)), rw again (rw e (rw e refl))); hyphen = λ rows. (rw by_id refl, refl) }
-    where
-      named : (waiting : Waiting) (rows : List Row) (pending : Pending) → walked s.rules [] (state waiting rows pending) (codes "--read") ≡ waits_for (codes "read") (settled_to s rows pending)
-      named idle rows pending = rw by_long refl
-      named (option id) rows pending = rw by_long refl
-      named positional rows pending = rw by_long refl
-
-      passes : (waiting : Waiting) (rows : List Row) (pending : Pending) → settles s rows pending ≡ true → turn_passes s [] (state waiting rows pending) (codes "--read") ≡ true
-      passes idle rows pending k = rw by_long (rw again (rw k refl))
-      passes (option id) rows pending k = rw by_long (rw again (rw k refl))
-      passes positional rows pending k = rw by_long (rw again (rw k refl))
+module _ (s : Shape) (r : Reads s) where
+  read_named : IsNamed s read_flag (codes "read")
+  read_named = record { again = r.again; by_long = r.by_long; by_id = r.by_id; takes = refl; single = λ t. refl; alone = (refl, refl); joined = λ t. (refl, refl) }
 
   equals_joins : (t : Text) → Joins s read_flag t (codes "-r" ++ (61 ∷ t))
   unfolding walked bundle_met chars encode_utf8 flags_pass
-  equals_joins t = record { walks = walks; passes = passes }
-    where
-      walks : (waiting : Waiting) (rows : List Row) (pending : Pending) → walked s.rules [] (state waiting rows pending) (codes "-r" ++ (61 ∷ t)) ≡ between (used read_flag (t ∷ []) (settled_to s rows pending)) None
-      walks idle rows pending = rw by_short refl
-      walks (option id) rows pending = rw by_short refl
-      walks positional rows pending = rw by_short refl
-
-      passes : (waiting : Waiting) (rows : List Row) (pending : Pending) → settles s rows pending ≡ true → use_passes false read_flag (t ∷ []) (settled_to s rows pending) ≡ true
-          → turn_passes s [] (state waiting rows pending) (codes "-r" ++ (61 ∷ t)) ≡ true
-      passes idle rows pending k u = rw by_short (rw again (rw (k, u) refl))
-      passes (option id) rows pending k u = rw by_short (rw again (rw (k, u) refl))
-      passes positional rows pending k u = rw by_short (rw again (rw (k, u) refl))
+  equals_joins t = record {
+    walks = λ waiting rows pending. rw (meets_none waiting (codes "-r" ++ (61 ∷ t)), r.by_short) refl;
+    passes = λ waiting rows pending k u. rw (meets_none waiting (codes "-r" ++ (61 ∷ t)), r.by_short, r.again, k, u) refl;
+  }
 
   behind_letter : (c : ℕ) (cs : Text) → (c == 61) ≡ false → Joins s read_flag (c ∷ cs) (codes "-r" ++ (c ∷ cs))
   unfolding walked bundle_met chars encode_utf8 flags_pass
-  behind_letter c cs e = record { walks = walks; passes = passes }
-    where
-      walks : (waiting : Waiting) (rows : List Row) (pending : Pending) → walked s.rules [] (state waiting rows pending) (codes "-r" ++ (c ∷ cs)) ≡ between (used read_flag ((c ∷ cs) ∷ []) (settled_to s rows pending)) None
-      walks idle rows pending = rw by_short (rw e refl)
-      walks (option id) rows pending = rw by_short (rw e refl)
-      walks positional rows pending = rw by_short (rw e refl)
-
-      passes : (waiting : Waiting) (rows : List Row) (pending : Pending) → settles s rows pending ≡ true → use_passes false read_flag ((c ∷ cs) ∷ []) (settled_to s rows pending) ≡ true
-          → turn_passes s [] (state waiting rows pending) (codes "-r" ++ (c ∷ cs)) ≡ true
-      passes idle rows pending k u = rw by_short (rw e (rw again (rw (k, u) refl)))
-      passes (option id) rows pending k u = rw by_short (rw e (rw again (rw (k, u) refl)))
-      passes positional rows pending k u = rw by_short (rw e (rw again (rw (k, u) refl)))
+  behind_letter c cs e = record {
+    walks = λ waiting rows pending. rw (meets_none waiting (codes "-r" ++ (c ∷ cs)), r.by_short, e) refl;
+    passes = λ waiting rows pending k u. rw (meets_none waiting (codes "-r" ++ (c ∷ cs)), r.by_short, e, r.again, k, u) refl;
+  }
 
   letter_joins : (t : Text) → is_attached t ≡ true → Joins s read_flag t (codes "-r" ++ t)
   letter_joins [] e = absurd (true≢false (sym e))
@@ -220,32 +207,25 @@ module _ (s : Shape) (by_long : arg_by_long s.rules (codes "read") ≡ Some read
 
   letter_waits : Waits s read_flag (codes "-r")
   unfolding walked bundle_met chars encode_utf8 flags_pass
-  letter_waits = record { named = named; passes = passes; empty = long_waits.empty; plain = long_waits.plain; hyphen = long_waits.hyphen }
-    where
-      named : (waiting : Waiting) (rows : List Row) (pending : Pending) → walked s.rules [] (state waiting rows pending) (codes "-r") ≡ waits_for (codes "read") (settled_to s rows pending)
-      named idle rows pending = rw by_short refl
-      named (option id) rows pending = rw by_short refl
-      named positional rows pending = rw by_short refl
-
-      passes : (waiting : Waiting) (rows : List Row) (pending : Pending) → settles s rows pending ≡ true → turn_passes s [] (state waiting rows pending) (codes "-r") ≡ true
-      passes idle rows pending k = rw by_short (rw again (rw k refl))
-      passes (option id) rows pending k = rw by_short (rw again (rw k refl))
-      passes positional rows pending k = rw by_short (rw again (rw k refl))
-
-  file_announces : (word : Text) → Waits s read_flag word → (t : Text) → IsValue t → Announces s read_flag t word
-  file_announces word w t = announces s read_flag word w t (λ rows. rw by_id refl) (λ rows u. rw by_id u)
+  letter_waits = let long = named_waits s read_flag (codes "read") read_named in record {
+    named = λ waiting rows pending. rw (meets_none waiting (codes "-r"), r.by_short) refl;
+    passes = λ waiting rows pending k. rw (meets_none waiting (codes "-r"), r.by_short, r.again, k) refl;
+    empty = long.empty;
+    plain = long.plain;
+    hyphen = long.hyphen;
+  }
 
   by_letter : (t : Text) (words : List Text) → SaysByLetter t words → Spelled s read_flag t words
   by_letter t [] says = absurd says
   by_letter t (word ∷ []) (inl e) = inl (codes "-r" ++ (61 ∷ t), ap (λ (x : Text). x ∷ []) e, equals_joins t)
   by_letter t (word ∷ []) (inr e) = inl (codes "-r" ++ t, ap (λ (x : Text). x ∷ []) e.0, letter_joins t e.1)
   by_letter t (word ∷ next ∷ []) says =
-      inr (codes "-r", ap (λ (x : Text). x ∷ next ∷ []) says.0 ∙ ap (λ (x : Text). codes "-r" ∷ x ∷ []) says.1, file_announces (codes "-r") letter_waits t says.2)
+      inr (codes "-r", ap (λ (x : Text). x ∷ next ∷ []) says.0 ∙ ap (λ (x : Text). codes "-r" ∷ x ∷ []) says.1, waits_announce s read_flag (codes "read") read_named (codes "-r") letter_waits t says.2)
   by_letter t (word ∷ next ∷ x ∷ more) says = absurd says
 
   -- each spelling of the name of a file
   pub file_spelled : (t : Text) (words : List Text) → Says (file t) words → Spelled s read_flag t words
-  file_spelled t words (inl says) = says_option s read_flag (codes "--read") t (long_joins t) (file_announces (codes "--read") long_waits t) words says
+  file_spelled t words (inl says) = named_spelled s read_flag (codes "read") read_named t words says
   file_spelled t words (inr says) = by_letter t words says
 
 -- ---- arguments one behind the other
@@ -310,14 +290,10 @@ pub record Ended (s : Shape) (all : List Argument) (words : List Text) : Type 0 
 
 marked_held : (s : Shape) (waiting : Waiting) (rows : List Row) (pending : Pending) → (walked s.rules [] (state waiting rows pending) dashes).held ≡ held rows pending
 unfolding walked
-marked_held s idle rows pending = refl
-marked_held s (option id) rows pending = refl
-marked_held s positional rows pending = refl
+marked_held s waiting rows pending = rw (meets_none waiting dashes) refl
 
 marked_passes : (s : Shape) (waiting : Waiting) (rows : List Row) (pending : Pending) → turn_passes s [] (state waiting rows pending) dashes ≡ true
-marked_passes s idle rows pending = refl
-marked_passes s (option id) rows pending = refl
-marked_passes s positional rows pending = refl
+marked_passes s waiting rows pending = rw (meets_none waiting dashes) refl
 
 pub arguments_end : (s : Shape) (all : List Argument) → Each s all all → (line mark : List Text) → SayAll all line → IsEnd mark → length line ≤ usize_max → Ended s all (line ++ mark)
 unfolding walk_passes

@@ -1,6 +1,6 @@
 -- Words that ask for a task are taken, and that task is theirs, with the options and the file that stand there.
-use Rattle.std.proofs.Common.{◌≡◌, ◌&&◌, ◌∙◌, ◌≤◌, ◌==◌, ◌||◌, ℕ, Bool, true, false, not, true≢false, List, [], ◌∷◌, ◌++◌, length, map, Option, Some, None, Ok, is_some, option_and_then, option_map, unwrap_or, refl, sym, ap, ap₂, subst, arith, length-append, slice_index}
-use Rattle.std.specs.Prelude.{codes, fold, pos, slice_get}
+use Rattle.std.proofs.Common.{◌≡◌, ◌&&◌, ◌∙◌, ◌≤◌, ◌==◌, ◌||◌, ℕ, Bool, true, false, not, true≢false, List, [], ◌∷◌, ◌++◌, length, map, Option, Some, None, Ok, is_some, option_and_then, option_map, unwrap_or, inl, inr, refl, sym, ap, ap₂, subst, arith, length-append, slice_index}
+use Rattle.std.specs.Prelude.{codes, pos, slice_get}
 use Rattle.std.specs.Global.{Global}
 use Rattle.std.specs.List.{list_all}
 use Rattle.std.specs.Str.{bytes_eq}
@@ -12,7 +12,7 @@ use Rattle.clap.specs.ValueTests.{accepts}
 use Rattle.clap.specs.Words.{Row, Shape, Text}
 use Rattle.clap.specs.Simple.{entered}
 use Rattle.clap.specs.Takes.{default_passes, entered_passes, is_valid, level_passes, value_passes}
-use Rattle.clap.specs.Walk.{idle, nothing_held, reading_by, rows_after, stop_after, subcommand_met, with_default}
+use Rattle.clap.specs.Walk.{idle, nothing_held, reading_by, rows_after, stop_after, subcommand_met}
 use Rattle.clap.specs.declared.builder.value_parser.Reading.{Reading}
 use Rattle.clap.specs.declared.builder.value_parser.ValueParser.TheVariants as parses
 use Rattle.clap.specs.declared.parser.matches.ValueSource.TheVariants.{CommandLine}
@@ -22,33 +22,30 @@ use Rattle.block_core.specs.declared.block.Block.{Block}
 use Rattle.block_core.specs.Period.{IsPeriod}
 use Rattle.loss_core.specs.Periods.{Period}
 use Rattle.words_core.specs.declared.option_words.Options.{Options}
-use Rattle.words_core.specs.CommandLine.{Asked, Meaning, check, import, list_blocks, losses, losses_of, name_of, number_said, period_at, publish, replay, replay_of, rewrite, show, task_asked, watch, watch_asked}
-use Rattle.words_core.specs.RequestLine.{Argument, AsksWith, SayPeriods, Switch, argument_name, argument_text, capture, changes, file, file_asked, given_as, is_on, is_set, named_once, request_asked, simulation, switch, switch_name, switches, takes_argument, text, valued}
+use Rattle.words_core.specs.CommandLine.{Asked, Meaning, block_at, is_plain, losses, losses_of, name_of, no_block, no_period, number_said, period_at, replay, replay_of, takes_options, task_asked, watch, watch_asked}
+use Rattle.words_core.specs.RequestLine.{Argument, AsksWith, SayPeriods, Switch, argument_name, argument_text, changes, file, file_asked, given_as, is_on, is_set, named_once, request_asked, simulation, switch, switch_name, takes_argument, text, valued}
 use Rattle.words_core.proofs.ArgumentRows.{how_read, row_for, row_texts}
 use Rattle.words_core.proofs.ArgumentWalks.{Each, Ended, Handled, arguments_end, each_of, level_ended, set_held}
 use Rattle.words_core.proofs.AskingWords.{line, names, stops, top}
-use Rattle.words_core.proofs.BlockWords as blocks_said
 use Rattle.words_core.proofs.Digits.{no_minus, no_plus}
-use Rattle.words_core.proofs.Handled.{IsApart, apart_read, block_argument, file_handled, id_handled, is_of, losses_offer, losses_read, period_handled, plain_handled, replay_offers, replay_reads, replays, stream_handled, switch_handled, text_handled, watch_offers, watch_reads}
-use Rattle.words_core.proofs.KeptRows.{no_default, no_defaults}
-use Rattle.words_core.proofs.LoneFlags.{help_flag}
-use Rattle.words_core.proofs.LossesRows.{losing, stream_period}
+use Rattle.words_core.proofs.Handled.{IsApart, block_argument, file_handled, id_handled, losing, losses_offer, losses_read, period_handled, plain_handled, plain_takes, replay_offers, replay_reads, replays, stream_handled, stream_period, switch_handled, text_handled, watch_offers, watch_reads}
 use Rattle.words_core.proofs.NamedWords.{IsTaken, at_most, taken_behind, wished}
-use Rattle.words_core.proofs.OptionRows.{default_other, default_set, new_row, read_flag, row_at, switch_flag}
-use Rattle.words_core.proofs.PeriodWords as periods_said
-use Rattle.words_core.proofs.PlainWords.{options_leave, plain_leaf, plain_leaves, plain_sets}
+use Rattle.words_core.proofs.OptionRows.{default_other, default_set, new_row, row_at, switch_flag}
+use Rattle.words_core.proofs.PeriodWords.{text_says}
+use Rattle.words_core.proofs.PlainWords.{Leaves, own_leave, plain_leaf, plain_leave}
+use Rattle.words_core.proofs.SaidTexts.{all_meant}
+use Rattle.words_core.proofs.Switches.{apart}
 use Rattle.words_core.proofs.WatchRows.{fits_back, id_option, period_option, watches}
 
 -- ---- a command, and words that ask for it
 
-record Command (t : Asked) (s : Shape) : Type 0 where
+record Command (t : Asked) (s : Shape) : Type 1 where
   met : subcommand_met names idle (name_of t) ≡ Some (name_of t)
   enters : (rest : List Text) → entered line (Some (name_of t, rest)) ≡ Some (name_of t, rows_after s.rules [] rest)
   passes : (rest : List Text) → level_passes s [] nothing_held rest false ≡ true → entered_passes line (Some (name_of t, rest)) ≡ true
   again : s.args_override_self ≡ false
   defaults : list_all default_passes s.rules ≡ true
-  sets : (o : Switch) (rows : List Row) → is_set (switch_name o) (fold with_default rows s.rules) ≡ is_set (switch_name o) rows
-  leaves : (id : Text) → IsApart id → (rows : List Row) → row_at id (fold with_default rows s.rules) ≡ row_at id rows
+  leave : Leaves s
 
 -- rows hold arguments under other names than those of options
 abbrev HoldOthers : Shape → List Row → List Argument → Type 0
@@ -85,10 +82,10 @@ command_taken t s c words options from a fits each asks = subst (λ (w : List Te
     rows = rows_after s.rules [] rest
 
     held : HoldOthers s rows a.arguments
-    held id apart = ap (row_at id) ended.rows_are ∙ c.leaves id apart ended.rows_so ∙ ended.hold id
+    held id apart = ap (row_at id) ended.rows_are ∙ c.leave (Option Row) (row_at id) (λ o. default_other o id (apart o)) ended.rows_so ∙ ended.hold id
 
     set : (o : Switch) → is_set (switch_name o) rows ≡ is_on options o
-    set o = ap (is_set (switch_name o)) ended.rows_are ∙ c.sets o ended.rows_so ∙ set_held s ended.rows_so a.arguments o (is_on options o) ended.hold each (a.give o)
+    set o = ap (is_set (switch_name o)) ended.rows_are ∙ c.leave Bool (is_set (switch_name o)) (default_set o) ended.rows_so ∙ set_held s ended.rows_so a.arguments o (is_on options o) ended.hold each (a.give o)
 
     so : (task_asked (name_of t, rows) ≡ Some (Ok t)) × (is_valid s rows false ≡ true)
     so = asks rows held
@@ -98,7 +95,7 @@ command_taken t s c words options from a fits each asks = subst (λ (w : List Te
 
     named : file_asked (name_of t, rows) ≡ from
     named =
-        ap (option_and_then (λ (r : Row). slice_get r.values 0)) (held (codes "read") apart_read)
+        ap (option_and_then (λ (r : Row). slice_get r.values 0)) (held (codes "read") (apart (codes "read") refl))
         ∙ ap (λ (ts : List Text). option_and_then (λ (r : Row). slice_get r.values 0) (row_for (codes "read") (how_read s (codes "read")) ts)) a.named
         ∙ first_named (how_read s (codes "read")) from
 
@@ -118,82 +115,19 @@ module _ (words : List Text) (t : Asked) (options : Options) (from : Option Text
 
 -- ---- commands without words of their own
 
-plain_command : (takes : Bool) (t : Asked) → subcommand_met names idle (name_of t) ≡ Some (name_of t)
-    → ((rest : List Text) → entered line (Some (name_of t, rest)) ≡ Some (name_of t, rows_after (plain_leaf takes t).rules [] rest))
-    → ((rest : List Text) → level_passes (plain_leaf takes t) [] nothing_held rest false ≡ true → entered_passes line (Some (name_of t, rest)) ≡ true)
-    → list_all default_passes (plain_leaf takes t).rules ≡ true → Command t (plain_leaf takes t)
-plain_command takes t met enters passes defaults = record { met = met; enters = enters; passes = passes; again = refl; defaults = defaults; sets = plain_sets takes t; leaves = plain_leaves takes t }
-
-plain_asked : (takes : Bool) (t : Asked) → Command t (plain_leaf takes t) → ((rows : List Row) → (task_asked (name_of t, rows) ≡ Some (Ok t)) × (is_valid (plain_leaf takes t) rows false ≡ true))
-    → ((a : Argument) → takes_argument t a ≡ is_of takes a)
+plain_asked : (t : Asked) → is_plain t ≡ true → Command t (plain_leaf (takes_options t) t) → ((rows : List Row) → (task_asked (name_of t, rows) ≡ Some (Ok t)) × (is_valid (plain_leaf (takes_options t) t) rows false ≡ true))
     → (words : List Text) (options : Options) (from : Option Text) → length words ≤ usize_max → AsksWith words t options from → IsTaken words t options from
-plain_asked takes t c asks same words options from fits a =
-    command_taken t (plain_leaf takes t) c words options from a fits
-    (each_of (plain_leaf takes t) a.arguments (takes_argument t) (λ x e. plain_handled takes t a.arguments (once words t options from a) (once_read words t options from a) x (sym (same x) ∙ e)) a.arguments a.taken) (λ rows held. asks rows)
-
-show_takes : (a : Argument) → takes_argument show a ≡ is_of true a
-show_takes (switch o) = refl
-show_takes (file name) = refl
-show_takes (valued name value) = refl
-show_takes (text b) = refl
-
-check_takes : (a : Argument) → takes_argument check a ≡ is_of true a
-check_takes (switch o) = refl
-check_takes (file name) = refl
-check_takes (valued name value) = refl
-check_takes (text b) = refl
-
-list_blocks_takes : (a : Argument) → takes_argument list_blocks a ≡ is_of true a
-list_blocks_takes (switch o) = refl
-list_blocks_takes (file name) = refl
-list_blocks_takes (valued name value) = refl
-list_blocks_takes (text b) = refl
-
-rewrite_takes : (a : Argument) → takes_argument rewrite a ≡ is_of false a
-rewrite_takes (switch o) = refl
-rewrite_takes (file name) = refl
-rewrite_takes (valued name value) = refl
-rewrite_takes (text b) = refl
-
-publish_takes : (a : Argument) → takes_argument publish a ≡ is_of false a
-publish_takes (switch o) = refl
-publish_takes (file name) = refl
-publish_takes (valued name value) = refl
-publish_takes (text b) = refl
-
-import_takes : (a : Argument) → takes_argument import a ≡ is_of false a
-import_takes (switch o) = refl
-import_takes (file name) = refl
-import_takes (valued name value) = refl
-import_takes (text b) = refl
+plain_asked t plainly c asks words options from fits a =
+    command_taken t (plain_leaf (takes_options t) t) c words options from a fits
+    (each_of (plain_leaf (takes_options t) t) a.arguments (takes_argument t) (λ x e. plain_handled (takes_options t) t a.arguments (once words t options from a) (once_read words t options from a) x (plain_takes t plainly x ∙ e)) a.arguments a.taken)
+    (λ rows held. asks rows)
 
 -- ---- `replay`
-
--- the defaults at the end leave what those of the options leave
-replay_leaves : {X : Type 0} (of : List Row → X) → ((o : Switch) (rows : List Row) → of (with_default rows (switch_flag o)) ≡ of rows)
-    → (rows : List Row) → of (fold with_default rows replays.rules) ≡ of rows
-replay_leaves of past rows =
-    let own = with_default (with_default rows (switch_flag changes)) (switch_flag simulation) in
-    ap (λ (l : List Row). of (fold with_default l (switch_flag changes ∷ switch_flag simulation ∷ read_flag ∷ map switch_flag switches ++ help_flag ∷ []))) (no_default block_argument rows refl)
-    ∙ ap (λ (l : List Row). of (fold with_default l (map switch_flag switches ++ help_flag ∷ []))) (no_default read_flag own refl)
-    ∙ options_leave of past switches own ∙ past simulation (with_default rows (switch_flag changes)) ∙ past changes rows
-
-apart_block : IsApart (codes "BLOCK")
-apart_block capture = refl
-apart_block _ = refl
 
 replay_asked_for : (blocks : List (Block Global)) (words : List Text) (options : Options) (from : Option Text) → length words ≤ usize_max → AsksWith words (replay blocks) options from → IsTaken words (replay blocks) options from
 replay_asked_for blocks words options from fits a =
     command_taken (replay blocks) replays
-    (record {
-      met = refl;
-      enters = λ rest. refl;
-      passes = λ rest p. p;
-      again = refl;
-      defaults = refl;
-      sets = λ o. replay_leaves (is_set (switch_name o)) (default_set o);
-      leaves = λ id apart. replay_leaves (row_at id) (λ o. default_other o id (apart o));
-    })
+    (record { met = refl; enters = λ rest. refl; passes = λ rest p. p; again = refl; defaults = refl; leave = λ X of past. own_leave X of past (block_argument ∷ switch_flag changes ∷ switch_flag simulation ∷ []) (inl refl, (inr (changes, refl), (inr (simulation, refl), tt))) })
     words options from a fits
     (each_of replays a.arguments (takes_argument (replay blocks)) handled a.arguments a.taken) (λ rows held. (asks rows held, refl))
   where
@@ -205,45 +139,23 @@ replay_asked_for blocks words options from fits a =
 
     asks : (rows : List Row) → HoldOthers replays rows a.arguments → task_asked (codes "replay", rows) ≡ Some (Ok (replay blocks))
     asks rows held =
-        ap (λ (o : Option Row). Some (replay_of (unwrap_or (option_map (λ (r : Row). r.values) o) []))) (held (codes "BLOCK") apart_block)
+        ap (λ (o : Option Row). Some (replay_of (unwrap_or (option_map (λ (r : Row). r.values) o) []))) (held (codes "BLOCK") (apart (codes "BLOCK") refl))
         ∙ ap (λ (l : List Text). Some (replay_of l)) (row_texts (codes "BLOCK") (how_read replays (codes "BLOCK")) (given_as (codes "BLOCK") a.arguments))
-        ∙ ap (λ (m : Meaning). Some m) (blocks_said.all_said blocks (given_as (codes "BLOCK") a.arguments) (sym a.means))
-
--- ---- periods
-
-apart_period : IsApart (codes "period")
-apart_period capture = refl
-apart_period _ = refl
-
-apart_id : IsApart (codes "id")
-apart_id capture = refl
-apart_id _ = refl
+        ∙ ap (λ (m : Meaning). Some m) (all_meant block_at no_block replay blocks (given_as (codes "BLOCK") a.arguments) (sym a.means))
 
 -- ---- `losses`
-
-losses_leave : {X : Type 0} (of : List Row → X) → ((o : Switch) (rows : List Row) → of (with_default rows (switch_flag o)) ≡ of rows) → (rows : List Row) → of (fold with_default rows losing.rules) ≡ of rows
-losses_leave of past rows =
-    ap (λ (l : List Row). of (fold with_default l (map switch_flag switches ++ help_flag ∷ []))) (no_defaults (stream_period ∷ read_flag ∷ []) rows (refl, (refl, tt))) ∙ options_leave of past switches rows
 
 periods_say : (periods : List Period) (ts : List Text) → SayPeriods periods ts → map Some periods ≡ map period_at ts
 periods_say [] ts say = ap (map period_at) (sym say)
 periods_say (p ∷ periods) [] say = absurd say
 periods_say (p ∷ periods) (t ∷ ts) say =
     ap₂ (λ (o : Option Period) (l : List (Option Period)). o ∷ l)
-    (sym (ap period_at say.0.is ∙ periods_said.text_says p say.0.digits say.0.are_digits say.0.number say.0.range)) (periods_say periods ts say.1)
+    (sym (ap period_at say.0.is ∙ text_says p say.0.digits say.0.are_digits say.0.number say.0.range)) (periods_say periods ts say.1)
 
 losses_asked_for : (periods : List Period) (words : List Text) (options : Options) (from : Option Text) → length words ≤ usize_max → AsksWith words (losses periods) options from → IsTaken words (losses periods) options from
 losses_asked_for periods words options from fits a =
     command_taken (losses periods) losing
-    (record {
-      met = refl;
-      enters = λ rest. refl;
-      passes = λ rest p. p;
-      again = refl;
-      defaults = refl;
-      sets = λ o. losses_leave (is_set (switch_name o)) (default_set o);
-      leaves = λ id apart. losses_leave (row_at id) (λ o. default_other o id (apart o));
-    })
+    (record { met = refl; enters = λ rest. refl; passes = λ rest p. p; again = refl; defaults = refl; leave = λ X of past. own_leave X of past (stream_period ∷ []) (inl refl, tt) })
     words options from a fits
     (each_of losing a.arguments (takes_argument (losses periods)) handled a.arguments a.taken) (λ rows held. (asks rows held, refl))
   where
@@ -255,17 +167,11 @@ losses_asked_for periods words options from fits a =
 
     asks : (rows : List Row) → HoldOthers losing rows a.arguments → task_asked (codes "losses", rows) ≡ Some (Ok (losses periods))
     asks rows held =
-        ap (λ (o : Option Row). Some (losses_of (unwrap_or (option_map (λ (r : Row). r.values) o) []))) (held (codes "period") apart_period)
+        ap (λ (o : Option Row). Some (losses_of (unwrap_or (option_map (λ (r : Row). r.values) o) []))) (held (codes "period") (apart (codes "period") refl))
         ∙ ap (λ (l : List Text). Some (losses_of l)) (row_texts (codes "period") (how_read losing (codes "period")) (given_as (codes "period") a.arguments))
-        ∙ ap (λ (m : Meaning). Some m) (periods_said.all_said periods (given_as (codes "period") a.arguments) (periods_say periods (given_as (codes "period") a.arguments) a.means))
+        ∙ ap (λ (m : Meaning). Some m) (all_meant period_at no_period losses periods (given_as (codes "period") a.arguments) (periods_say periods (given_as (codes "period") a.arguments) a.means))
 
 -- ---- `watch`
-
-watch_leaves : {X : Type 0} (of : List Row → X) → ((o : Switch) (rows : List Row) → of (with_default rows (switch_flag o)) ≡ of rows)
-    → (rows : List Row) → of (fold with_default rows watches.rules) ≡ of rows
-watch_leaves of past rows =
-    ap (λ (l : List Row). of (fold with_default l (map switch_flag switches ++ help_flag ∷ []))) (no_defaults (period_option ∷ id_option ∷ read_flag ∷ []) rows (refl, (refl, (refl, tt))))
-    ∙ options_leave of past switches rows
 
 module _ (digits : Text) (are : IsNumeral 10 digits) where
   as_they_stand : without_minus digits ≡ digits
@@ -328,15 +234,7 @@ watch_says rows digits id period p i say = rw (p, i) (rw say refl)
 watch_asked_for : (period : ℕ) (id : Text) (words : List Text) (options : Options) (from : Option Text) → length words ≤ usize_max → AsksWith words (watch period id) options from → IsTaken words (watch period id) options from
 watch_asked_for period id words options from fits a =
     command_taken (watch period id) watches
-    (record {
-      met = refl;
-      enters = λ rest. refl;
-      passes = λ rest p. p;
-      again = refl;
-      defaults = refl;
-      sets = λ o. watch_leaves (is_set (switch_name o)) (default_set o);
-      leaves = λ x apart. watch_leaves (row_at x) (λ o. default_other o x (apart o));
-    })
+    (record { met = refl; enters = λ rest. refl; passes = λ rest p. p; again = refl; defaults = refl; leave = λ X of past. own_leave X of past (period_option ∷ id_option ∷ []) (inl refl, (inl refl, tt)) })
     words options from a fits
     (each_of watches a.arguments (λ x. takes_argument (watch period id) x && passes_as (codes "period") (value_passes period_option) x)
     (λ x e. let parts = both (takes_argument (watch period id) x) (passes_as (codes "period") (value_passes period_option) x) e in handled x parts.0 parts.1) a.arguments
@@ -367,19 +265,15 @@ watch_asked_for period id words options from fits a =
 
     asks : (rows : List Row) → HoldOthers watches rows a.arguments → (task_asked (codes "watch", rows) ≡ Some (Ok (watch period id))) × (is_valid watches rows false ≡ true)
     asks rows held =
-        let p = held (codes "period") apart_period ∙ ap (row_for (codes "period") (how_read watches (codes "period"))) one.are in
-        let i = held (codes "id") apart_id ∙ ap (row_for (codes "id") (how_read watches (codes "id"))) a.means.1 in
+        let p = held (codes "period") (apart (codes "period") refl) ∙ ap (row_for (codes "period") (how_read watches (codes "period"))) one.are in
+        let i = held (codes "id") (apart (codes "id") refl) ∙ ap (row_for (codes "id") (how_read watches (codes "id"))) a.means.1 in
         (watch_says rows one.digits id period p i one.say, watch_valid rows one.digits id p i)
 
 -- ---- each task
 
 pub asked_with : (words : List Text) (t : Asked) (options : Options) (from : Option Text) → length words ≤ usize_max → AsksWith words t options from → IsTaken words t options from
-asked_with words show options from fits a = plain_asked true show (plain_command true show refl (λ rest. refl) (λ rest p. p) refl) (λ rows. (refl, refl)) show_takes words options from fits a
-asked_with words check options from fits a = plain_asked true check (plain_command true check refl (λ rest. refl) (λ rest p. p) refl) (λ rows. (refl, refl)) check_takes words options from fits a
-asked_with words list_blocks options from fits a = plain_asked true list_blocks (plain_command true list_blocks refl (λ rest. refl) (λ rest p. p) refl) (λ rows. (refl, refl)) list_blocks_takes words options from fits a
-asked_with words rewrite options from fits a = plain_asked false rewrite (plain_command false rewrite refl (λ rest. refl) (λ rest p. p) refl) (λ rows. (refl, refl)) rewrite_takes words options from fits a
-asked_with words publish options from fits a = plain_asked false publish (plain_command false publish refl (λ rest. refl) (λ rest p. p) refl) (λ rows. (refl, refl)) publish_takes words options from fits a
-asked_with words import options from fits a = plain_asked false import (plain_command false import refl (λ rest. refl) (λ rest p. p) refl) (λ rows. (refl, refl)) import_takes words options from fits a
 asked_with words (replay blocks) options from fits a = replay_asked_for blocks words options from fits a
 asked_with words (watch period id) options from fits a = watch_asked_for period id words options from fits a
 asked_with words (losses periods) options from fits a = losses_asked_for periods words options from fits a
+asked_with words t options from fits a =
+    plain_asked t refl (record { met = refl; enters = λ rest. refl; passes = λ rest p. p; again = refl; defaults = refl; leave = plain_leave (takes_options t) t }) (λ rows. (refl, refl)) words options from fits a

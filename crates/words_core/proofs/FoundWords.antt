@@ -17,28 +17,28 @@ use Rattle.clap.specs.declared.error.kind.ErrorKind.TheVariants as kind
 use Rattle.words_core.specs.CommandLine.{Asked, IsValue, is_flag}
 use Rattle.words_core.specs.RequestLine.{Argument, AreTexts, SayAll, Says, Switch, argument_name, argument_text, file, given_as, is_set, named_once, switch, switch_name, switch_word, switches}
 use Rattle.words_core.proofs.ArgumentRows.{Hold, given_append, hold_more, how_read, puts, row_for}
-use Rattle.words_core.proofs.ArgumentWalks.{Each, Ended, Handled, Stands, Went, arguments_end, count_set, each_of, is_free}
-use Rattle.words_core.proofs.Handled.{Offers, Reads, apart_read, file_goes, switch_led}
+use Rattle.words_core.proofs.ArgumentWalks.{Each, Ended, Handled, Reads, Stands, Went, arguments_end, count_set, each_of, is_free}
+use Rattle.words_core.proofs.Handled.{Offers, file_goes, is_of, switch_led}
 use Rattle.words_core.proofs.KeptRows.{first_none, then_none}
-use Rattle.words_core.proofs.LoneFlags.{help_flag, stray, turn_none}
-use Rattle.words_core.proofs.OptionRows.{has_at, read_flag, row_at, switch_flag}
-use Rattle.words_core.proofs.OptionWalks.{Pending, between, dashes, held, settled_to, state}
-use Rattle.words_core.proofs.PlainWords.{IsEnd, long_word, plain_leaf, valued_word}
-use Rattle.words_core.proofs.Switches.{AreAll, first_has, is_common}
+use Rattle.words_core.proofs.LoneFlags.{help_flag, marked, nothing_behind, stray, turn_none}
+use Rattle.words_core.proofs.OptionRows.{default_other, default_set, has_at, read_flag, row_at, switch_flag}
+use Rattle.words_core.proofs.OptionWalks.{Pending, between, dashes, held, meets_none, settled_to, state}
+use Rattle.words_core.proofs.PlainWords.{IsEnd, Leaves, long_word, plain_leaf}
+use Rattle.words_core.proofs.Switches.{AreAll, apart, first_has, is_common}
 
 -- ---- which argument is found
 
-found_in : (test : Rule → Bool) (P : Option Rule → Type 0) → P None → P (Some help_flag) → (os : List Switch) → AreAll is_common os
-    → ((o : Switch) → is_common o ≡ true → test (switch_flag o) ≡ true → P (Some (switch_flag o))) → P (find test (map switch_flag os ++ help_flag ∷ []))
-found_in test P none help [] all own = go (test help_flag)
+found_in : (has : Switch → Bool) (test : Rule → Bool) (P : Option Rule → Type 0) → P None → P (Some help_flag) → (os : List Switch) → AreAll has os
+    → ((o : Switch) → has o ≡ true → test (switch_flag o) ≡ true → P (Some (switch_flag o))) → P (find test (map switch_flag os ++ help_flag ∷ []))
+found_in has test P none help [] all own = go (test help_flag)
   where
     go : (b : Bool) → P (cond b (Some help_flag) None)
     go true = help
     go false = none
-found_in test P none help (o ∷ os) all own = go (test (switch_flag o)) refl (found_in test P none help os parts.1 own)
+found_in has test P none help (o ∷ os) all own = go (test (switch_flag o)) refl (found_in has test P none help os parts.1 own)
   where
-    parts : (is_common o ≡ true) × AreAll is_common os
-    parts = first_has is_common o os all
+    parts : (has o ≡ true) × AreAll has os
+    parts = first_has has o os all
 
     go : (b : Bool) → test (switch_flag o) ≡ b → P (find test (map switch_flag os ++ help_flag ∷ [])) → P (cond b (Some (switch_flag o)) (find test (map switch_flag os ++ help_flag ∷ [])))
     go true t later = own o parts.0 t
@@ -48,10 +48,10 @@ alone : (b : Bool) → (b || false) ≡ true → b ≡ true
 alone true e = refl
 alone false e = absurd (true≢false (sym e))
 
--- which argument of a command is found by a test: that of help, that of the name of a file, or an option of its own
-abbrev pub Finds : Shape → (Switch → Type 0) → Type 1
-Finds s Own = (test : Rule → Bool) (P : Option Rule → Type 0) → P None → P (Some help_flag) → (test read_flag ≡ true → P (Some read_flag))
-    → ((o : Switch) → Own o → test (switch_flag o) ≡ true → P (Some (switch_flag o))) → P (find test s.rules)
+-- which argument of a command is found by a test: that of help, that of the name of a file, or an option that it has
+abbrev pub Finds : Shape → (Argument → Bool) → Type 1
+Finds s has = (test : Rule → Bool) (P : Option Rule → Type 0) → P None → P (Some help_flag) → (test read_flag ≡ true → P (Some read_flag))
+    → ((o : Switch) → has (switch o) ≡ true → test (switch_flag o) ≡ true → P (Some (switch_flag o))) → P (find test s.rules)
 
 after_read : (test : Rule → Bool) (P : Option Rule → Type 0) → (test read_flag ≡ true → P (Some read_flag)) → (rest : Option Rule) → P rest → P (cond (test read_flag) (Some read_flag) rest)
 after_read test P read rest p = go (test read_flag) refl
@@ -60,21 +60,9 @@ after_read test P read rest p = go (test read_flag) refl
     go true e = read e
     go false e = p
 
-abbrev pub IsNone : Switch → Type 0
-IsNone o = ⊥
-
-abbrev pub IsCommon : Switch → Type 0
-IsCommon o = is_common o ≡ true
-
-pub finds_option : (t : Asked) → Finds (plain_leaf true t) IsCommon
-finds_option t test P none help read own = after_read test P read (find test (map switch_flag switches ++ help_flag ∷ [])) (found_in test P none help switches refl own)
-
-pub finds_none : (t : Asked) → Finds (plain_leaf false t) IsNone
-finds_none t test P none help read own = after_read test P read (find test (help_flag ∷ [])) (go (test help_flag))
-  where
-    go : (b : Bool) → P (cond b (Some help_flag) None)
-    go true = help
-    go false = none
+pub finds_plain : (takes : Bool) (t : Asked) → Finds (plain_leaf takes t) (is_of takes)
+finds_plain true t test P none help read own = after_read test P read (find test (map switch_flag switches ++ help_flag ∷ [])) (found_in is_common test P none help switches refl own)
+finds_plain false t test P none help read own = after_read test P read (find test (help_flag ∷ [])) (found_in (λ o. false) test P none help [] refl own)
 
 -- ---- a word by its letters
 
@@ -129,15 +117,31 @@ is_value (a ∷ b ∷ rest) l k d = go (a == 45) (b == 45) refl refl rest l k d
 
 -- ---- a command of which this is known
 
-module _ (s : Shape) (Own : Switch → Type 0) (finds : Finds s Own) (reads : Reads s) (none : arg_by_index s.rules 1 ≡ None) (offers : (o : Switch) → Own o → Offers s o) (has : Argument → Bool)
-    (has_file : (name : Text) → has (file name) ≡ true) (has_switch : (o : Switch) → Own o → has (switch o) ≡ true) where
+-- words are arguments of which a test holds, and then nothing or the mark
+pub record Arguments (has : Argument → Bool) (words : List Text) : Type 0 where
+  pub arguments : List Argument
+  pub line : List Text
+  pub mark : List Text
+  pub are : words ≡ line ++ mark
+  pub say : SayAll arguments line
+  pub taken : list_all has arguments ≡ true
+  pub end : IsEnd mark
+
+-- and rows say what is given
+pub record Behind (has : Argument → Bool) (rows : List Row) (words : List Text) : Type 0 where
+  pub told : Arguments has words
+  pub counts : (o : Switch) → length (given_as (switch_name o) told.arguments) ≡ (if is_set (switch_name o) rows then 1 else 0)
+  pub named : given_as (codes "read") told.arguments ≡ named_once (first_of (codes "read") rows)
+
+module _ (s : Shape) (has : Argument → Bool) (finds : Finds s has) (reads : Reads s) (none : arg_by_index s.rules 1 ≡ None) (offers : (o : Switch) → has (switch o) ≡ true → Offers s o)
+    (has_file : (name : Text) → has (file name) ≡ true) where
   abbrev IsSettled : List Row → Pending → Type 0
   IsSettled rows pending = settle_fault s.rules s.args_override_self (held rows pending) ≡ []
 
   -- what a word is that does not fail
   data Seen (rows : List Row) (pending : Pending) (x : Text) : Type 0 where
     marks : x ≡ dashes → Seen rows pending x
-    sets : (o : Switch) → Own o → x ≡ switch_word o → IsSettled rows pending → has_row (switch_name o) (settled_to s rows pending) ≡ false → Seen rows pending x
+    sets : (o : Switch) → has (switch o) ≡ true → x ≡ switch_word o → IsSettled rows pending → has_row (switch_name o) (settled_to s rows pending) ≡ false → Seen rows pending x
     names : (name : Text) → Says (file name) (x ∷ []) → IsSettled rows pending → has_row (codes "read") (settled_to s rows pending) ≡ false → Seen rows pending x
     asks : (x ≡ codes "--read") ⊎ (x ≡ codes "-r") → IsSettled rows pending → Seen rows pending x
     plainly : long_of x ≡ None → short_of x ≡ None → bytes_eq x dashes ≡ false → Seen rows pending x
@@ -167,18 +171,23 @@ module _ (s : Shape) (Own : Switch → Type 0) (finds : Finds s Own) (reads : Re
     long_alone x name l = finds (λ a. not (is_some a.index) && has_long a name) (λ o. long_fault s.rules s.args_override_self o None h ≡ [] → Seen rows pending x)
         (λ e. cc)
         (λ e. let bad : kind.DisplayHelp ∷ [] ≡ [] = then_none (settle_fault s.rules s.args_override_self h) (kind.DisplayHelp ∷ []) e in cc)
-        (λ test e. asks (inl (long_word x name l ∙ ap (λ (n : Text). 45 ∷ 45 ∷ n) (sym ((bytes_eq-Decides (codes "read") name).0 (alone (bytes_eq (codes "read") name) test))))) e)
-        (λ o own test e. sets o own (long_word x name l ∙ ap (λ (n : Text). 45 ∷ 45 ∷ n) (sym ((bytes_eq-Decides (switch_name o) name).0 (alone (bytes_eq (switch_name o) name) test))))
+        (λ test e. asks (inl (long_word x name None l ∙ ap (λ (n : Text). 45 ∷ 45 ∷ n) (sym ((bytes_eq-Decides (codes "read") name).0 (alone (bytes_eq (codes "read") name) test))))) e)
+        (λ o own test e. sets o own (long_word x name None l ∙ ap (λ (n : Text). 45 ∷ 45 ∷ n) (sym ((bytes_eq-Decides (switch_name o) name).0 (alone (bytes_eq (switch_name o) name) test))))
         (first_none (settle_fault s.rules s.args_override_self h) (use_fault s.args_override_self (switch_flag o) [] rows_so) e)
         (unused_switch o rows_so (then_none (settle_fault s.rules s.args_override_self h) (use_fault s.args_override_self (switch_flag o) [] rows_so) e)))
+
+    -- the name of a file in this word
+    names_seen : (x value : Text) → Says (file value) (x ∷ []) → or_else (settle_fault s.rules s.args_override_self h) (use_fault s.args_override_self read_flag (value ∷ []) rows_so) ≡ [] → Seen rows pending x
+    names_seen x value says e =
+        let before = settle_fault s.rules s.args_override_self h in
+        let named = use_fault s.args_override_self read_flag (value ∷ []) rows_so in
+        names value says (first_none before named e) (unused_read value rows_so (then_none before named e))
 
     long_with : (x name value : Text) → long_of x ≡ Some (name, Some value) → long_fault s.rules s.args_override_self (arg_by_long s.rules name) (Some value) h ≡ [] → Seen rows pending x
     long_with x name value l = finds (λ a. not (is_some a.index) && has_long a name) (λ o. long_fault s.rules s.args_override_self o (Some value) h ≡ [] → Seen rows pending x)
         (λ e. cc)
         (λ e. cc)
-        (λ test e. names value (inl (valued_word x name value l ∙ ap (λ (n : Text). 45 ∷ 45 ∷ (n ++ (61 ∷ value))) (sym ((bytes_eq-Decides (codes "read") name).0 (alone (bytes_eq (codes "read") name) test)))))
-        (first_none (settle_fault s.rules s.args_override_self h) (use_fault s.args_override_self read_flag (value ∷ []) rows_so) e)
-        (unused_read value rows_so (then_none (settle_fault s.rules s.args_override_self h) (use_fault s.args_override_self read_flag (value ∷ []) rows_so) e)))
+        (λ test e. names_seen x value (inl (long_word x name (Some value) l ∙ ap (λ (n : Text). 45 ∷ 45 ∷ (n ++ (61 ∷ value))) (sym ((bytes_eq-Decides (codes "read") name).0 (alone (bytes_eq (codes "read") name) test))))) e)
         (λ o own test e. cc)
 
     -- behind the letter `r`
@@ -187,14 +196,8 @@ module _ (s : Shape) (Own : Switch → Type 0) (finds : Finds s Own) (reads : Re
     letter_seen x (y ∷ ys) is e = go (y == 61) refl
       where
         go : (b : Bool) → (y == 61) ≡ b → Seen rows pending x
-        go true t =
-            let so : or_else (settle_fault s.rules s.args_override_self h) (use_fault s.args_override_self read_flag (ys ∷ []) rows_so) ≡ [] = rw t at e in
-            names ys (inr (inl (is ∙ ap (λ (c : ℕ). 45 ∷ 114 ∷ c ∷ ys) (eqb-true y 61 t)))) (first_none (settle_fault s.rules s.args_override_self h) (use_fault s.args_override_self read_flag (ys ∷ []) rows_so) so)
-            (unused_read ys rows_so (then_none (settle_fault s.rules s.args_override_self h) (use_fault s.args_override_self read_flag (ys ∷ []) rows_so) so))
-        go false t =
-            let so : or_else (settle_fault s.rules s.args_override_self h) (use_fault s.args_override_self read_flag ((y ∷ ys) ∷ []) rows_so) ≡ [] = rw t at e in
-            names (y ∷ ys) (inr (inr (is, rw t refl))) (first_none (settle_fault s.rules s.args_override_self h) (use_fault s.args_override_self read_flag ((y ∷ ys) ∷ []) rows_so) so)
-            (unused_read (y ∷ ys) rows_so (then_none (settle_fault s.rules s.args_override_self h) (use_fault s.args_override_self read_flag ((y ∷ ys) ∷ []) rows_so) so))
+        go true t = names_seen x ys (inr (inl (is ∙ ap (λ (c : ℕ). 45 ∷ 114 ∷ c ∷ ys) (eqb-true y 61 t)))) (rw t at e)
+        go false t = names_seen x (y ∷ ys) (inr (inr (is, rw t refl))) (rw t at e)
 
     -- the first of short names is this one, and then those
     first_seen : (x flags : Text) (c : ℕ) (r : List ℕ) (next : Held → Kinds) → x ≡ 45 ∷ flags → flags ≡ encode_utf8_all (c ∷ r)
@@ -231,13 +234,8 @@ module _ (s : Shape) (Own : Switch → Type 0) (finds : Finds s Own) (reads : Re
     flag_seen x u d None (Some flags) l f e = short_seen x flags u f (rw f at e)
 
     seen : (waiting : Waiting) (x : Text) → IsUtf8 x → turn_fault s [] (state waiting rows pending) x ≡ [] → Seen rows pending x
-    seen waiting x u e = at (bytes_eq x dashes) refl (word waiting e)
+    seen waiting x u e = at (bytes_eq x dashes) refl (first_none (other_fault s None x h) _ (rw (meets_none waiting x) at e))
       where
-        word : (waiting : Waiting) → turn_fault s [] (state waiting rows pending) x ≡ [] → other_fault s None x h ≡ []
-        word idle e = first_none (other_fault s None x h) _ e
-        word (option id) e = first_none (other_fault s None x h) _ e
-        word positional e = first_none (other_fault s None x h) _ e
-
         at : (b : Bool) → bytes_eq x dashes ≡ b → other_fault s None x h ≡ [] → Seen rows pending x
         at true d f = marks ((bytes_eq-Decides x dashes).0 d)
         at false d f = flag_seen x u d (long_of x) (short_of x) refl refl (rw d at f)
@@ -249,19 +247,9 @@ module _ (s : Shape) (Own : Switch → Type 0) (finds : Finds s Own) (reads : Re
   no_stray idle g rows pending x l k d e = stray s.is_leaf (rw none at (rw (d, l, k) at e))
   no_stray positional g rows pending x l k d e = stray s.is_leaf (rw none at (rw (d, l, k) at e))
 
-  -- behind the mark nothing stands
-  abbrev marked : Waiting → List Row → Pending → Walk
-  marked waiting rows pending = record (state waiting rows pending) { is_trailing = true }
-
-  nothing_more : (waiting : Waiting) (rows : List Row) (pending : Pending) (words : List Text) → walk_fault s [] (marked waiting rows pending) words ≡ [] → words ≡ []
-  nothing_more waiting rows pending [] e = refl
-  nothing_more waiting rows pending (x ∷ xs) e = absurd (stray s.is_leaf (rw none at (turn_none s [] (marked waiting rows pending) x xs e).0))
-
   to_mark : (waiting : Waiting) (rows : List Row) (pending : Pending) → walked s.rules [] (state waiting rows pending) dashes ≡ marked waiting rows pending
   unfolding walked
-  to_mark idle rows pending = refl
-  to_mark (option id) rows pending = refl
-  to_mark positional rows pending = refl
+  to_mark waiting rows pending = rw (meets_none waiting dashes) refl
 
   -- a walk that stands somewhere does not fail in more words, and not at their end
   record Passes (w : Walk) (words : List Text) : Type 0 where
@@ -275,7 +263,7 @@ module _ (s : Shape) (Own : Switch → Type 0) (finds : Finds s Own) (reads : Re
   marked_settled : (waiting : Waiting) (rows : List Row) (pending : Pending) (xs : List Text) → Passes (walked s.rules [] (state waiting rows pending) dashes) xs → (xs ≡ []) × IsSettled rows pending
   marked_settled waiting rows pending xs p =
       let behind : Passes (marked waiting rows pending) xs = subst (λ (w : Walk). Passes w xs) (to_mark waiting rows pending) p in
-      let none_left = nothing_more waiting rows pending xs behind.walking in
+      let none_left = nothing_behind s [] none waiting rows pending xs behind.walking in
       (none_left, subst (λ (l : List Text). settle_fault s.rules s.args_override_self (fold (walked s.rules []) (marked waiting rows pending) l).held ≡ []) none_left behind.ending)
 
   -- what is pending is settled in the end
@@ -328,14 +316,8 @@ module _ (s : Shape) (Own : Switch → Type 0) (finds : Finds s Own) (reads : Re
 
   -- words are arguments behind these, and the end
   record Found (done : List Argument) (words : List Text) : Type 0 where
-    arguments : List Argument
-    line : List Text
-    mark : List Text
-    are : words ≡ line ++ mark
-    say : SayAll arguments line
-    taken : list_all has arguments ≡ true
-    few : Few (done ++ arguments)
-    end : IsEnd mark
+    told : Arguments has words
+    few : Few (done ++ told.arguments)
 
   -- where a walk is between arguments, with those before
   record At (w : Walk) (done : List Argument) (n : ℕ) : Type 0 where
@@ -346,27 +328,23 @@ module _ (s : Shape) (Own : Switch → Type 0) (finds : Finds s Own) (reads : Re
 
   found_end : (w : Walk) (done : List Argument) (n : ℕ) (mark : List Text) → At w done n → IsEnd mark → Found done mark
   found_end w done n mark at end = record {
-    arguments = [];
-    line = [];
-    mark = mark;
-    are = refl;
-    say = refl;
-    taken = refl;
+    told = record { arguments = []; line = []; mark = mark; are = refl; say = refl; taken = refl; end = end };
     few = λ id. subst (λ (l : List Argument). length (given_as id l) ≤ 1) (sym (append-nil done)) (at.few id);
-    end = end;
   }
 
   -- an argument in words, and those behind it
   found_more : (done : List Argument) (a : Argument) (first rest : List Text) → Says a first → has a ≡ true → Found (done ++ a ∷ []) rest → Found done (first ++ rest)
   found_more done a first rest says own f = record {
-    arguments = a ∷ f.arguments;
-    line = first ++ f.line;
-    mark = f.mark;
-    are = ap (λ (l : List Text). first ++ l) f.are ∙ sym (append_assoc first f.line f.mark);
-    say = (first, f.line, refl, says, f.say);
-    taken = rw own f.taken;
-    few = λ id. subst (λ (l : List Argument). length (given_as id l) ≤ 1) (append_assoc done (a ∷ []) f.arguments) (f.few id);
-    end = f.end;
+    told = record {
+      arguments = a ∷ f.told.arguments;
+      line = first ++ f.told.line;
+      mark = f.told.mark;
+      are = ap (λ (l : List Text). first ++ l) f.told.are ∙ sym (append_assoc first f.told.line f.told.mark);
+      say = (first, f.told.line, refl, says, f.told.say);
+      taken = rw own f.told.taken;
+      end = f.told.end;
+    };
+    few = λ id. subst (λ (l : List Argument). length (given_as id l) ≤ 1) (append_assoc done (a ∷ []) f.told.arguments) (f.few id);
   }
 
   -- an argument that is used for the first time leads on
@@ -395,19 +373,9 @@ module _ (s : Shape) (Own : Switch → Type 0) (finds : Finds s Own) (reads : Re
       → walked s.rules [] (state waiting rows pending) x ≡ state (option (codes "read")) (settled_to s rows pending) (Some (codes "read", []))
   unfolding walked bundle_met chars encode_utf8
   asked_state x which waiting rows pending = elim which [
-    | inl is ↦ subst (λ (y : Text). walked s.rules [] (state waiting rows pending) y ≡ state (option (codes "read")) (settled_to s rows pending) (Some (codes "read", []))) (sym is) (by_name waiting)
-    | inr is ↦ subst (λ (y : Text). walked s.rules [] (state waiting rows pending) y ≡ state (option (codes "read")) (settled_to s rows pending) (Some (codes "read", []))) (sym is) (by_letter waiting)
+    | inl is ↦ subst (λ (y : Text). walked s.rules [] (state waiting rows pending) y ≡ state (option (codes "read")) (settled_to s rows pending) (Some (codes "read", []))) (sym is) (rw (meets_none waiting (codes "--read"), reads.by_long) refl)
+    | inr is ↦ subst (λ (y : Text). walked s.rules [] (state waiting rows pending) y ≡ state (option (codes "read")) (settled_to s rows pending) (Some (codes "read", []))) (sym is) (rw (meets_none waiting (codes "-r"), reads.by_short) refl)
   ]
-    where
-      by_name : (waiting : Waiting) → walked s.rules [] (state waiting rows pending) (codes "--read") ≡ state (option (codes "read")) (settled_to s rows pending) (Some (codes "read", []))
-      by_name idle = rw reads.by_long refl
-      by_name (option id) = rw reads.by_long refl
-      by_name positional = rw reads.by_long refl
-
-      by_letter : (waiting : Waiting) → walked s.rules [] (state waiting rows pending) (codes "-r") ≡ state (option (codes "read")) (settled_to s rows pending) (Some (codes "read", []))
-      by_letter idle = rw reads.by_short refl
-      by_letter (option id) = rw reads.by_short refl
-      by_letter positional = rw reads.by_short refl
 
   -- a name that is announced has to come
   unnamed : (rows : List Row) → IsSettled rows (Some (codes "read", [])) → ⊥
@@ -489,10 +457,10 @@ module _ (s : Shape) (Own : Switch → Type 0) (finds : Finds s Own) (reads : Re
       fits_rest : (n + 1) + length words ≤ usize_max
       fits_rest = omega (arith, fits)
 
-      by_switch : (o : Switch) → Own o → x ≡ switch_word o → has_row (switch_name o) at.rows_so ≡ false → Found done (x ∷ words)
+      by_switch : (o : Switch) → has (switch o) ≡ true → x ≡ switch_word o → has_row (switch_name o) at.rows_so ≡ false → Found done (x ∷ words)
       by_switch o own is unused =
           subst (λ (y : Text). Found done (y ∷ words)) (sym is)
-          (found_more done (switch o) (switch_word o ∷ []) words refl (has_switch o own)
+          (found_more done (switch o) (switch_word o ∷ []) words refl own
           (later (walked s.rules [] w (switch_word o)) (done ++ switch o ∷ []) (n + 1) (at_more w done n at (switch o) (switch_word o ∷ []) (switch_led s reads.again o (offers o own)) unused) fits_rest u.1
           (subst (λ (y : Text). Passes (walked s.rules [] w y) words) is rest)))
 
@@ -516,38 +484,18 @@ module _ (s : Shape) (Own : Switch → Type 0) (finds : Finds s Own) (reads : Re
 
   -- ---- what such words give
 
-  -- arguments that a test holds of, in words, with the rows that they lead to
-  pub record Behind (words : List Text) : Type 0 where
-    pub arguments : List Argument
-    pub line : List Text
-    pub mark : List Text
-    pub are : words ≡ line ++ mark
-    pub say : SayAll arguments line
-    pub taken : list_all has arguments ≡ true
-    pub end : IsEnd mark
-    pub counts : (o : Switch) → length (given_as (switch_name o) arguments) ≡ (if is_set (switch_name o) (rows_after s.rules [] words) then 1 else 0)
-    pub named : given_as (codes "read") arguments ≡ named_once (first_of (codes "read") (rows_after s.rules [] words))
-
   one_named : (how : Reading) (ts : List Text) → length ts ≤ 1 → ts ≡ named_once (option_and_then (λ r. slice_get r.values 0) (row_for (codes "read") how ts))
   one_named how [] few = refl
   one_named how (x ∷ []) few = refl
   one_named how (x ∷ y ∷ ts) few = absurd (omega (arith, few))
 
-  pub behind : ((all : List Argument) → ((id : Text) → length (given_as id all) ≤ 1) → (a : Argument) → has a ≡ true → Handled s all a)
-      → ((o : Switch) (rows : List Row) → is_set (switch_name o) (fold with_default rows s.rules) ≡ is_set (switch_name o) rows)
-      → ((id : Text) → ((o : Switch) → bytes_eq (switch_name o) id ≡ false) → (rows : List Row) → row_at id (fold with_default rows s.rules) ≡ row_at id rows)
-      → (words : List Text) → length words ≤ usize_max → AreTexts words → level_fault s [] nothing_held words false [] ≡ [] → Behind words
-  behind handled set_so leaves words fits u e = record {
-    arguments = f.arguments;
-    line = f.line;
-    mark = f.mark;
-    are = f.are;
-    say = f.say;
-    taken = f.taken;
-    end = f.end;
+  pub behind : ((all : List Argument) → ((id : Text) → length (given_as id all) ≤ 1) → (a : Argument) → has a ≡ true → Handled s all a) → Leaves s
+      → (words : List Text) → length words ≤ usize_max → AreTexts words → level_fault s [] nothing_held words false [] ≡ [] → Behind has (rows_after s.rules [] words) words
+  behind handled leave words fits u e = record {
+    told = f.told;
     counts = λ o. counted o;
-    named = one_named (how_read s (codes "read")) (given_as (codes "read") f.arguments) (f.few (codes "read"))
-        ∙ ap (λ (r : Option Row). named_once (option_and_then (λ (x : Row). slice_get x.values 0) r)) (sym (ap (row_at (codes "read")) rows_are ∙ leaves (codes "read") apart_read ended.rows_so ∙ ended.hold (codes "read")));
+    named = one_named (how_read s (codes "read")) (given_as (codes "read") all) (f.few (codes "read"))
+        ∙ ap (λ (r : Option Row). named_once (option_and_then (λ (x : Row). slice_get x.values 0) r)) (sym (ap (row_at (codes "read")) rows_are ∙ leave (Option Row) (row_at (codes "read")) (λ o. default_other o (codes "read") (apart (codes "read") refl o)) ended.rows_so ∙ ended.hold (codes "read")));
   }
     where
       settling : Kinds
@@ -560,19 +508,22 @@ module _ (s : Shape) (Own : Switch → Type 0) (finds : Finds s Own) (reads : Re
           (record { rows_so = []; stands = record { waiting = idle; rows = []; pending = None; is = refl; free = refl; settled = refl; settling = refl; few = omega arith }; hold = λ id. refl; few = λ id. omega arith })
           (omega (arith, fits)) u (record { walking = first_none (walk_fault s [] (walk_from nothing_held) words) _ e; ending = first_none settling _ after })
 
-      each : Each s f.arguments f.arguments
-      each = each_of s f.arguments has (handled f.arguments f.few) f.arguments f.taken
+      all : List Argument
+      all = f.told.arguments
 
-      few_words : length f.line ≤ usize_max
-      few_words = let size = ap length f.are in let parts = length-append f.line f.mark in omega (arith, fits, size, parts)
+      each : Each s all all
+      each = each_of s all has (handled all f.few) all f.told.taken
 
-      ended : Ended s f.arguments (f.line ++ f.mark)
-      ended = arguments_end s f.arguments each f.line f.mark f.say f.end few_words
+      few_words : length f.told.line ≤ usize_max
+      few_words = let size = ap length f.told.are in let parts = length-append f.told.line f.told.mark in omega (arith, fits, size, parts)
+
+      ended : Ended s all (f.told.line ++ f.told.mark)
+      ended = arguments_end s all each f.told.line f.told.mark f.told.say f.told.end few_words
 
       rows_are : rows_after s.rules [] words ≡ fold with_default ended.rows_so s.rules
-      rows_are = ap (rows_after s.rules []) f.are ∙ ended.rows_are
+      rows_are = ap (rows_after s.rules []) f.told.are ∙ ended.rows_are
 
-      counted : (o : Switch) → length (given_as (switch_name o) f.arguments) ≡ (if is_set (switch_name o) (rows_after s.rules [] words) then 1 else 0)
+      counted : (o : Switch) → length (given_as (switch_name o) all) ≡ (if is_set (switch_name o) (rows_after s.rules [] words) then 1 else 0)
       counted o =
-          count_set s ended.rows_so f.arguments o ended.hold each (f.few (switch_name o))
-          ∙ sym (ap (λ (b : Bool). if b then 1 else 0) (ap (is_set (switch_name o)) rows_are ∙ set_so o ended.rows_so))
+          count_set s ended.rows_so all o ended.hold each (f.few (switch_name o))
+          ∙ sym (ap (λ (b : Bool). if b then 1 else 0) (ap (is_set (switch_name o)) rows_are ∙ leave Bool (is_set (switch_name o)) (default_set o) ended.rows_so))

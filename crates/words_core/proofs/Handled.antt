@@ -4,24 +4,23 @@ use Rattle.std.specs.Prelude.{codes}
 use Rattle.std.specs.List.{list_all}
 use Rattle.std.specs.Str.{bytes_eq}
 use Rattle.std.proofs.lemmas.Slice.Eq.{bytes_eq-Decides}
-use Rattle.clap.specs.Lexer.{usize_max}
+use Rattle.clap.specs.Lexer.{long_of, usize_max}
 use Rattle.clap.specs.Words.{Row, Rule, Shape, Text}
 use Rattle.clap.specs.Simple.{filled, with_index}
 use Rattle.clap.specs.Takes.{turn_passes, use_passes, value_passes, walk_passes}
-use Rattle.clap.specs.Walk.{Waiting, Walk, arg_by_id, arg_by_long, arg_by_short, has_row, idle, option, positional, reading_by, stronger, used, walked, with_values}
+use Rattle.clap.specs.Walk.{Waiting, Walk, arg_by_id, arg_by_long, has_row, idle, option, positional, reading_by, stronger, used, walked, with_values}
 use Rattle.clap.specs.declared.builder.value_parser.Reading.{Reading}
 use Rattle.clap.specs.declared.parser.matches.ValueSource.{ValueSource}
 use Rattle.clap.specs.declared.parser.matches.ValueSource.TheVariants.{CommandLine}
-use Rattle.words_core.specs.CommandLine.{Asked, block_rule, is_flag, replay_shape}
-use Rattle.words_core.specs.RequestLine.{Argument, Says, Switch, argument_name, argument_text, capture, changes, file, given_as, offered, read_rule, simulation, switch, switch_name, switch_word, text, valued}
+use Rattle.words_core.specs.CommandLine.{Asked, block_rule, is_flag, is_plain, losses, losses_shape, replay, replay_shape, stream_period_rule, takes_options, watch}
+use Rattle.words_core.specs.RequestLine.{Argument, Says, Switch, argument_name, argument_text, capture, changes, file, given_as, offered, read_rule, simulation, switch, switch_name, switch_word, takes_argument, text, valued}
 use Rattle.words_core.proofs.ArgumentRows.{how_read, puts}
-use Rattle.words_core.proofs.ArgumentWalks.{Handled, Joins, Spelled, Stands, Waits, Went, announces, file_spelled, is_free, says_option, size_of, spelled_goes, waits_for}
+use Rattle.words_core.proofs.ArgumentWalks.{Handled, IsNamed, Reads, Spelled, Stands, Went, file_spelled, is_free, named_spelled, size_of, spelled_goes, went_to}
 use Rattle.words_core.proofs.KeptRows.{leaf}
-use Rattle.words_core.proofs.LossesRows.{losing, stream_period}
 use Rattle.words_core.proofs.OptionRows.{read_flag, self_eq, strongest, switch_flag, use_switch}
-use Rattle.words_core.proofs.OptionWalks.{Pending, between, both_true, settled_to, settles, state}
+use Rattle.words_core.proofs.OptionWalks.{Pending, between, both_true, dashes, meets_none, settled_to, settles, state}
 use Rattle.words_core.proofs.PlainWords.{plain_leaf}
-use Rattle.words_core.proofs.Switches.{is_common, one_name}
+use Rattle.words_core.proofs.Switches.{apart_from, is_common, one_name}
 use Rattle.words_core.proofs.WatchRows.{id_option, period_option, watches}
 
 -- the subcommand `replay` as it is built
@@ -31,49 +30,42 @@ replays = leaf (offered true replay_shape)
 abbrev pub block_argument : Rule
 block_argument = with_index 1 (filled block_rule)
 
+-- and `losses`
+abbrev pub losing : Shape
+losing = leaf (offered true losses_shape)
+
+abbrev pub stream_period : Rule
+stream_period = with_index 1 (filled stream_period_rule)
+
 -- ---- options without a value
 
 -- a command has an option, by its name and as an argument
 abbrev pub Offers : Shape → Switch → Type 0
 Offers s o = (arg_by_long s.rules (switch_name o) ≡ Some (switch_flag o)) × (arg_by_id s.rules (switch_name o) ≡ Some (switch_flag o))
 
+-- the word of an option is its long name alone
+switch_alone : (o : Switch) → (bytes_eq (switch_word o) dashes ≡ false) × (long_of (switch_word o) ≡ Some (switch_name o, None))
+switch_alone capture = (refl, refl)
+switch_alone _ = (refl, refl)
+
 module _ (s : Shape) (again : s.args_override_self ≡ false) where
   switch_walks : (o : Switch) → Offers s o → (waiting : Waiting) (rows : List Row) (pending : Pending)
       → walked s.rules [] (state waiting rows pending) (switch_word o) ≡ between (use_switch o (settled_to s rows pending)) None
   unfolding walked
-  switch_walks capture g idle rows pending = rw g.0 refl
-  switch_walks capture g (option id) rows pending = rw g.0 refl
-  switch_walks capture g positional rows pending = rw g.0 refl
-  switch_walks _ g idle rows pending = rw g.0 refl
-  switch_walks _ g (option id) rows pending = rw g.0 refl
-  switch_walks _ g positional rows pending = rw g.0 refl
+  switch_walks o g waiting rows pending = rw (meets_none waiting (switch_word o), (switch_alone o).0, (switch_alone o).1, g.0) refl
 
   switch_passes : (o : Switch) → Offers s o → (waiting : Waiting) (rows : List Row) (pending : Pending) → settles s rows pending ≡ true → has_row (switch_name o) (settled_to s rows pending) ≡ false
       → turn_passes s [] (state waiting rows pending) (switch_word o) ≡ true
-  switch_passes capture g idle rows pending k u = rw g.0 (rw again (rw (k, u) refl))
-  switch_passes capture g (option id) rows pending k u = rw g.0 (rw again (rw (k, u) refl))
-  switch_passes capture g positional rows pending k u = rw g.0 (rw again (rw (k, u) refl))
-  switch_passes _ g idle rows pending k u = rw g.0 (rw again (rw (k, u) refl))
-  switch_passes _ g (option id) rows pending k u = rw g.0 (rw again (rw (k, u) refl))
-  switch_passes _ g positional rows pending k u = rw g.0 (rw again (rw (k, u) refl))
+  switch_passes o g waiting rows pending k u = rw (meets_none waiting (switch_word o), (switch_alone o).0, (switch_alone o).1, g.0, again, k, u) refl
 
   switch_goes : (o : Switch) → Offers s o → (w : Walk) (rows_so : List Row) (n : ℕ) → Stands s w rows_so n → has_row (switch_name o) rows_so ≡ false
       → Went s w (switch_word o ∷ []) (use_switch o rows_so) (n + 1)
   unfolding walk_passes
-  switch_goes o g w rows_so n st unused = record {
-    stands = record {
-      waiting = idle;
-      rows = use_switch o (settled_to s st.rows st.pending);
-      pending = None;
-      is = ap (λ (x : Walk). walked s.rules [] x (switch_word o)) st.is ∙ switch_walks o g st.waiting st.rows st.pending;
-      free = refl;
-      settled = ap (use_switch o) st.settled;
-      settling = refl;
-      few = omega arith;
-    };
-    passes = both_true _ _ (subst (λ (x : Walk). turn_passes s [] x (switch_word o) ≡ true) (sym st.is)
-        (switch_passes o g st.waiting st.rows st.pending st.settling (subst (λ (r : List Row). has_row (switch_name o) r ≡ false) (sym st.settled) unused))) refl;
-  }
+  switch_goes o g w rows_so n st unused =
+      went_to s w (switch_word o ∷ []) idle (use_switch o (settled_to s st.rows st.pending)) None (use_switch o rows_so) (n + 1) refl
+      (ap (λ (x : Walk). walked s.rules [] x (switch_word o)) st.is ∙ switch_walks o g st.waiting st.rows st.pending) (ap (use_switch o) st.settled) refl (omega arith)
+      (both_true _ _ (subst (λ (x : Walk). turn_passes s [] x (switch_word o) ≡ true) (sym st.is)
+      (switch_passes o g st.waiting st.rows st.pending st.settling (subst (λ (r : List Row). has_row (switch_name o) r ≡ false) (sym st.settled) unused))) refl)
 
   reads : (o : Switch) → Offers s o → how_read s (switch_name o) ≡ reading_by (switch_flag o)
   reads o g = ap (λ (r : Option Rule). reading_by (unwrap_or r read_rule)) g.1
@@ -96,10 +88,6 @@ module _ (s : Shape) (again : s.args_override_self ≡ false) where
   }
 
 -- ---- an argument with a text
-
-read_apart : (o : Switch) → bytes_eq (codes "read") (switch_name o) ≡ false
-read_apart capture = refl
-read_apart _ = refl
 
 -- an option with a value that is not given yet
 set_goes : (s : Shape) (a : Argument) (r : Rule) → ((words : List Text) → Says a words → Spelled s r (argument_text a) words)
@@ -125,141 +113,44 @@ set_handled s all a goes apart most = record {
   gives = λ o t. absurd (true≢false (sym t ∙ apart o));
 }
 
--- the facts on a command by which it has the name of a file
-pub record Reads (s : Shape) : Type 0 where
-  pub by_long : arg_by_long s.rules (codes "read") ≡ Some read_flag
-  pub by_short : arg_by_short s.rules 114 ≡ Some read_flag
-  pub by_id : arg_by_id s.rules (codes "read") ≡ Some read_flag
-  pub again : s.args_override_self ≡ false
-
 pub file_goes : (s : Shape) → Reads s → (name : Text) (words : List Text) → Says (file name) words → (w : Walk) (rows_so : List Row) (n : ℕ) → Stands s w rows_so n → has_row (codes "read") rows_so ≡ false
     → Went s w words (puts false (codes "read") (how_read s (codes "read")) name rows_so) (n + length words)
 file_goes s r name =
-    set_goes s (file name) read_flag (file_spelled s r.by_long r.by_short r.by_id r.again name)
+    set_goes s (file name) read_flag (file_spelled s r name)
     (λ rows. ap (λ (h : Reading). puts false (codes "read") h name rows) (sym (ap (λ (o : Option Rule). reading_by (unwrap_or o read_rule)) r.by_id)))
     (λ rows unused. rw unused refl)
 
 pub file_handled : (s : Shape) → Reads s → (all : List Argument) (name : Text) → length (given_as (codes "read") all) ≤ 1 → Handled s all (file name)
-file_handled s r all name most = set_handled s all (file name) (file_goes s r name) read_apart most
+file_handled s r all name most = set_handled s all (file name) (file_goes s r name) (apart_from (codes "read") refl) most
 
-period_joins : (t : Text) → Joins watches period_option t (codes "--period" ++ (61 ∷ t))
-unfolding walked
-period_joins t = record { walks = walks; passes = passes }
-  where
-    walks : (waiting : Waiting) (rows : List Row) (pending : Pending) → walked watches.rules [] (state waiting rows pending) (codes "--period" ++ (61 ∷ t)) ≡ between (used period_option (t ∷ []) (settled_to watches rows pending)) None
-    walks idle rows pending = refl
-    walks (option id) rows pending = refl
-    walks positional rows pending = refl
+period_named : IsNamed watches period_option (codes "period")
+period_named = record { again = refl; by_long = refl; by_id = refl; takes = refl; single = λ t. refl; alone = (refl, refl); joined = λ t. (refl, refl) }
 
-    passes : (waiting : Waiting) (rows : List Row) (pending : Pending) → settles watches rows pending ≡ true → use_passes false period_option (t ∷ []) (settled_to watches rows pending) ≡ true
-        → turn_passes watches [] (state waiting rows pending) (codes "--period" ++ (61 ∷ t)) ≡ true
-    passes idle rows pending k u = rw (k, u) refl
-    passes (option id) rows pending k u = rw (k, u) refl
-    passes positional rows pending k u = rw (k, u) refl
+id_named : IsNamed watches id_option (codes "id")
+id_named = record { again = refl; by_long = refl; by_id = refl; takes = refl; single = λ t. refl; alone = (refl, refl); joined = λ t. (refl, refl) }
 
-period_waits : Waits watches period_option (codes "--period")
-unfolding walked
-period_waits = record { named = named; passes = passes; empty = λ rows. (refl, refl); plain = λ c cs e rows. (rw e (rw e refl), rw e (rw e refl)); hyphen = λ rows. (refl, refl) }
-  where
-    named : (waiting : Waiting) (rows : List Row) (pending : Pending) → walked watches.rules [] (state waiting rows pending) (codes "--period") ≡ waits_for (codes "period") (settled_to watches rows pending)
-    named idle rows pending = refl
-    named (option id) rows pending = refl
-    named positional rows pending = refl
-
-    passes : (waiting : Waiting) (rows : List Row) (pending : Pending) → settles watches rows pending ≡ true → turn_passes watches [] (state waiting rows pending) (codes "--period") ≡ true
-    passes idle rows pending k = rw k refl
-    passes (option id) rows pending k = rw k refl
-    passes positional rows pending k = rw k refl
-
-id_joins : (t : Text) → Joins watches id_option t (codes "--id" ++ (61 ∷ t))
-unfolding walked
-id_joins t = record { walks = walks; passes = passes }
-  where
-    walks : (waiting : Waiting) (rows : List Row) (pending : Pending) → walked watches.rules [] (state waiting rows pending) (codes "--id" ++ (61 ∷ t)) ≡ between (used id_option (t ∷ []) (settled_to watches rows pending)) None
-    walks idle rows pending = refl
-    walks (option id) rows pending = refl
-    walks positional rows pending = refl
-
-    passes : (waiting : Waiting) (rows : List Row) (pending : Pending) → settles watches rows pending ≡ true → use_passes false id_option (t ∷ []) (settled_to watches rows pending) ≡ true
-        → turn_passes watches [] (state waiting rows pending) (codes "--id" ++ (61 ∷ t)) ≡ true
-    passes idle rows pending k u = rw (k, u) refl
-    passes (option id) rows pending k u = rw (k, u) refl
-    passes positional rows pending k u = rw (k, u) refl
-
-id_waits : Waits watches id_option (codes "--id")
-unfolding walked
-id_waits = record { named = named; passes = passes; empty = λ rows. (refl, refl); plain = λ c cs e rows. (rw e (rw e refl), rw e (rw e refl)); hyphen = λ rows. (refl, refl) }
-  where
-    named : (waiting : Waiting) (rows : List Row) (pending : Pending) → walked watches.rules [] (state waiting rows pending) (codes "--id") ≡ waits_for (codes "id") (settled_to watches rows pending)
-    named idle rows pending = refl
-    named (option id) rows pending = refl
-    named positional rows pending = refl
-
-    passes : (waiting : Waiting) (rows : List Row) (pending : Pending) → settles watches rows pending ≡ true → turn_passes watches [] (state waiting rows pending) (codes "--id") ≡ true
-    passes idle rows pending k = rw k refl
-    passes (option id) rows pending k = rw k refl
-    passes positional rows pending k = rw k refl
-
-stream_joins : (t : Text) → Joins losing stream_period t (codes "--period" ++ (61 ∷ t))
-unfolding walked
-stream_joins t = record { walks = walks; passes = passes }
-  where
-    walks : (waiting : Waiting) (rows : List Row) (pending : Pending) → walked losing.rules [] (state waiting rows pending) (codes "--period" ++ (61 ∷ t)) ≡ between (used stream_period (t ∷ []) (settled_to losing rows pending)) None
-    walks idle rows pending = refl
-    walks (option id) rows pending = refl
-    walks positional rows pending = refl
-
-    passes : (waiting : Waiting) (rows : List Row) (pending : Pending) → settles losing rows pending ≡ true → use_passes false stream_period (t ∷ []) (settled_to losing rows pending) ≡ true
-        → turn_passes losing [] (state waiting rows pending) (codes "--period" ++ (61 ∷ t)) ≡ true
-    passes idle rows pending k u = rw (k, u) refl
-    passes (option id) rows pending k u = rw (k, u) refl
-    passes positional rows pending k u = rw (k, u) refl
-
-stream_waits : Waits losing stream_period (codes "--period")
-unfolding walked
-stream_waits = record { named = named; passes = passes; empty = λ rows. (refl, refl); plain = λ c cs e rows. (rw e (rw e refl), rw e (rw e refl)); hyphen = λ rows. (refl, refl) }
-  where
-    named : (waiting : Waiting) (rows : List Row) (pending : Pending) → walked losing.rules [] (state waiting rows pending) (codes "--period") ≡ waits_for (codes "period") (settled_to losing rows pending)
-    named idle rows pending = refl
-    named (option id) rows pending = refl
-    named positional rows pending = refl
-
-    passes : (waiting : Waiting) (rows : List Row) (pending : Pending) → settles losing rows pending ≡ true → turn_passes losing [] (state waiting rows pending) (codes "--period") ≡ true
-    passes idle rows pending k = rw k refl
-    passes (option id) rows pending k = rw k refl
-    passes positional rows pending k = rw k refl
-
-period_apart : (o : Switch) → bytes_eq (codes "period") (switch_name o) ≡ false
-period_apart capture = refl
-period_apart _ = refl
-
-id_apart : (o : Switch) → bytes_eq (codes "id") (switch_name o) ≡ false
-id_apart capture = refl
-id_apart _ = refl
+stream_named : IsNamed losing stream_period (codes "period")
+stream_named = record { again = refl; by_long = refl; by_id = refl; takes = refl; single = λ t. refl; alone = (refl, refl); joined = λ t. (refl, refl) }
 
 pub period_handled : (all : List Argument) (t : Text) → value_passes period_option t ≡ true → length (given_as (codes "period") all) ≤ 1 → Handled watches all (valued (codes "period") t)
 period_handled all t pass most =
     set_handled watches all (valued (codes "period") t)
-    (set_goes watches (valued (codes "period") t) period_option (says_option watches period_option (codes "--period") t (period_joins t) (announces watches period_option (codes "--period") period_waits t (λ rows. refl) (λ rows u. u))) (λ rows. refl) (λ rows unused. rw (unused, pass) refl)) period_apart most
+    (set_goes watches (valued (codes "period") t) period_option (named_spelled watches period_option (codes "period") period_named t) (λ rows. refl) (λ rows unused. rw (unused, pass) refl)) (apart_from (codes "period") refl) most
 
 pub id_handled : (all : List Argument) (t : Text) → length (given_as (codes "id") all) ≤ 1 → Handled watches all (valued (codes "id") t)
 id_handled all t most =
     set_handled watches all (valued (codes "id") t)
-    (set_goes watches (valued (codes "id") t) id_option (says_option watches id_option (codes "--id") t (id_joins t) (announces watches id_option (codes "--id") id_waits t (λ rows. refl) (λ rows u. u))) (λ rows. refl) (λ rows unused. rw unused refl)) id_apart most
+    (set_goes watches (valued (codes "id") t) id_option (named_spelled watches id_option (codes "id") id_named t) (λ rows. refl) (λ rows unused. rw unused refl)) (apart_from (codes "id") refl) most
 
 pub stream_handled : (all : List Argument) (t : Text) → Handled losing all (valued (codes "period") t)
 stream_handled all t = record {
   appends = true;
   once = inl refl;
-  goes = λ words says w rows_so n st fits may. spelled_goes losing stream_period t words (says_option losing stream_period (codes "--period") t (stream_joins t) (announces losing stream_period (codes "--period") stream_waits t (λ rows. refl) (λ rows u. u)) words says) w rows_so n st refl;
-  gives = λ o e. absurd (true≢false (sym e ∙ period_apart o));
+  goes = λ words says w rows_so n st fits may. spelled_goes losing stream_period t words (named_spelled losing stream_period (codes "period") stream_named t words says) w rows_so n st refl;
+  gives = λ o e. absurd (true≢false (sym e ∙ apart_from (codes "period") refl o));
 }
 
 -- ---- the texts of blocks
-
-block_apart : (o : Switch) → bytes_eq (codes "BLOCK") (switch_name o) ≡ false
-block_apart capture = refl
-block_apart _ = refl
 
 -- what is pending are texts of blocks
 abbrev is_of_blocks : Pending → Bool
@@ -346,37 +237,17 @@ text_goes t f w rows_so n st fits = go st.pending st.is st.settled st.settling s
 
     alone : (p : Pending) → w ≡ state st.waiting st.rows p → settled_to replays st.rows p ≡ rows_so → is_of_blocks p ≡ false
         → Went replays w (t ∷ []) (puts true (codes "BLOCK") (how_read replays (codes "BLOCK")) t rows_so) (n + 1)
-    alone p is settled other = record {
-      stands = record {
-        waiting = positional;
-        rows = settled_to replays st.rows p;
-        pending = Some (codes "BLOCK", t ∷ []);
-        is = ap (λ (x : Walk). walked replays.rules [] x t) is ∙ next_alone st.waiting st.free st.rows p other t f;
-        free = refl;
-        settled = ap (puts true (codes "BLOCK") (how_read replays (codes "BLOCK")) t) settled;
-        settling = refl;
-        few = omega arith;
-      };
-      passes = both_true _ _ passes refl;
-    }
+    alone p is settled other =
+        went_to replays w (t ∷ []) positional (settled_to replays st.rows p) (Some (codes "BLOCK", t ∷ [])) (puts true (codes "BLOCK") (how_read replays (codes "BLOCK")) t rows_so) (n + 1) refl
+        (ap (λ (x : Walk). walked replays.rules [] x t) is ∙ next_alone st.waiting st.free st.rows p other t f) (ap (puts true (codes "BLOCK") (how_read replays (codes "BLOCK")) t) settled) refl (omega arith) (both_true _ _ passes refl)
 
     more : (ts : List Text) → w ≡ state st.waiting st.rows (Some (codes "BLOCK", ts)) → settled_to replays st.rows (Some (codes "BLOCK", ts)) ≡ rows_so → length ts ≤ n
         → Went replays w (t ∷ []) (puts true (codes "BLOCK") (how_read replays (codes "BLOCK")) t rows_so) (n + 1)
     more ts is settled few =
         let size = length-append ts (t ∷ []) in
-        record {
-          stands = record {
-            waiting = positional;
-            rows = st.rows;
-            pending = Some (codes "BLOCK", ts ++ t ∷ []);
-            is = ap (λ (x : Walk). walked replays.rules [] x t) is ∙ next_more st.waiting st.free st.rows ts t f;
-            free = refl;
-            settled = more_settled st.rows ts t ∙ ap (puts true (codes "BLOCK") (how_read replays (codes "BLOCK")) t) settled;
-            settling = more_settle st.rows ts t (omega (arith, few, fits));
-            few = omega (arith, few, size);
-          };
-          passes = both_true _ _ passes refl;
-        }
+        went_to replays w (t ∷ []) positional st.rows (Some (codes "BLOCK", ts ++ t ∷ [])) (puts true (codes "BLOCK") (how_read replays (codes "BLOCK")) t rows_so) (n + 1) refl
+        (ap (λ (x : Walk). walked replays.rules [] x t) is ∙ next_more st.waiting st.free st.rows ts t f) (more_settled st.rows ts t ∙ ap (puts true (codes "BLOCK") (how_read replays (codes "BLOCK")) t) settled)
+        (more_settle st.rows ts t (omega (arith, few, fits))) (omega (arith, few, size)) (both_true _ _ passes refl)
 
     go : (p : Pending) → w ≡ state st.waiting st.rows p → settled_to replays st.rows p ≡ rows_so → settles replays st.rows p ≡ true → size_of p ≤ n
         → Went replays w (t ∷ []) (puts true (codes "BLOCK") (how_read replays (codes "BLOCK")) t rows_so) (n + 1)
@@ -396,7 +267,7 @@ text_handled all t = record {
   once = inl refl;
   goes = λ words says w rows_so n st fits may. subst (λ (l : List Text). Went replays w l (puts true (codes "BLOCK") (how_read replays (codes "BLOCK")) t rows_so) (n + length l)) (sym says.0)
       (text_goes t says.1 w rows_so n st (let size = ap length says.0 in omega (arith, fits, size)));
-  gives = λ o e. absurd (true≢false (sym e ∙ block_apart o));
+  gives = λ o e. absurd (true≢false (sym e ∙ apart_from (codes "BLOCK") refl o));
 }
 
 -- ---- each command
@@ -414,11 +285,28 @@ watch_reads = record { by_long = refl; by_short = refl; by_id = refl; again = re
 pub losses_read : Reads losing
 losses_read = record { by_long = refl; by_short = refl; by_id = refl; again = refl }
 
-pub plain_offers : (t : Asked) (o : Switch) → is_common o ≡ true → Offers (plain_leaf true t) o
-plain_offers t changes g = absurd (true≢false (sym g))
-plain_offers t simulation g = absurd (true≢false (sym g))
-plain_offers t capture g = (refl, refl)
-plain_offers t _ g = (refl, refl)
+-- an argument of a command without words of its own, with the options or without
+abbrev pub is_of : Bool → Argument → Bool
+is_of takes (switch o) = takes && is_common o
+is_of takes (file name) = true
+is_of takes (valued name value) = false
+is_of takes (text t) = false
+
+pub plain_takes : (t : Asked) → is_plain t ≡ true → (a : Argument) → is_of (takes_options t) a ≡ takes_argument t a
+plain_takes (replay blocks) e a = absurd (true≢false (sym e))
+plain_takes (watch period id) e a = absurd (true≢false (sym e))
+plain_takes (losses periods) e a = absurd (true≢false (sym e))
+plain_takes t e (switch o) = refl
+plain_takes t e (file name) = refl
+plain_takes t e (valued name value) = refl
+plain_takes t e (text b) = refl
+
+pub plain_offers : (takes : Bool) (t : Asked) (o : Switch) → is_of takes (switch o) ≡ true → Offers (plain_leaf takes t) o
+plain_offers false t o g = absurd (true≢false (sym g))
+plain_offers true t changes g = absurd (true≢false (sym g))
+plain_offers true t simulation g = absurd (true≢false (sym g))
+plain_offers true t capture g = (refl, refl)
+plain_offers true t _ g = (refl, refl)
 
 pub watch_offers : (o : Switch) → is_common o ≡ true → Offers watches o
 watch_offers changes g = absurd (true≢false (sym g))
@@ -440,25 +328,9 @@ replay_offers _ = (refl, refl)
 abbrev pub IsApart : Text → Type 0
 IsApart id = (o : Switch) → bytes_eq (switch_name o) id ≡ false
 
-pub apart_read : IsApart (codes "read")
-apart_read capture = refl
-apart_read _ = refl
-
--- an argument of a command without words of its own, with the options or without
-abbrev pub is_of : Bool → Argument → Bool
-is_of true (switch o) = is_common o
-is_of false (switch o) = false
-is_of takes (file name) = true
-is_of takes (valued name value) = false
-is_of takes (text t) = false
-
 pub plain_handled : (takes : Bool) (t : Asked) (all : List Argument) → ((o : Switch) → length (given_as (switch_name o) all) ≤ 1) → length (given_as (codes "read") all) ≤ 1
     → (x : Argument) → is_of takes x ≡ true → Handled (plain_leaf takes t) all x
-plain_handled true t all once once_read (switch o) e = switch_handled (plain_leaf true t) refl o (plain_offers t o e) all (once o)
-plain_handled true t all once once_read (file name) e = file_handled (plain_leaf true t) (plain_reads true t) all name once_read
-plain_handled true t all once once_read (valued name value) e = absurd (true≢false (sym e))
-plain_handled true t all once once_read (text b) e = absurd (true≢false (sym e))
-plain_handled false t all once once_read (switch o) e = absurd (true≢false (sym e))
-plain_handled false t all once once_read (file name) e = file_handled (plain_leaf false t) (plain_reads false t) all name once_read
-plain_handled false t all once once_read (valued name value) e = absurd (true≢false (sym e))
-plain_handled false t all once once_read (text b) e = absurd (true≢false (sym e))
+plain_handled takes t all once once_read (switch o) e = switch_handled (plain_leaf takes t) (plain_reads takes t).again o (plain_offers takes t o e) all (once o)
+plain_handled takes t all once once_read (file name) e = file_handled (plain_leaf takes t) (plain_reads takes t) all name once_read
+plain_handled takes t all once once_read (valued name value) e = absurd (true≢false (sym e))
+plain_handled takes t all once once_read (text b) e = absurd (true≢false (sym e))

@@ -1,11 +1,11 @@
 -- What the matches of words without a fault keep of their arguments.
-use Rattle.std.proofs.Common.{◌≡◌, ◌&&◌, ℕ, zero, suc, Bool, true, false, true≢false, List, [], ◌∷◌, ◌++◌, length, drop, Option, Some, None, is_some, option_and_then, option_map, refl, sym, ap, subst, ◌∙◌}
+use Rattle.std.proofs.Common.{◌≡◌, ◌&&◌, ℕ, zero, suc, Bool, true, false, true≢false, List, [], ◌∷◌, ◌++◌, length, drop, Option, Some, None, is_some, option_and_then, option_map, refl, sym, ap, subst, unwrap_or, ◌∙◌}
 use Rattle.std.specs.Prelude.{encode_utf8, find, fold, slice_get, if◌then◌else◌}
 use Rattle.std.specs.Option.{option_map_or}
 use Rattle.std.specs.Str.{bytes_eq, chars}
 use Rattle.std.proofs.lemmas.Slice.Eq.{bytes_eq-Decides}
 use Rattle.clap.specs.Lexer.{long_of, short_of}
-use Rattle.clap.specs.Words.{Kinds, Row, Rule, Shape, Text, first_of, one_of, read_as}
+use Rattle.clap.specs.Words.{Kinds, Row, Rule, Shape, Text, all_of, first_of, one_of, read_as}
 use Rattle.clap.specs.Kinds.{check_kinds, or_else, range_kinds}
 use Rattle.clap.specs.Simple.{built_leaf, inherited, marked_built, with_leaf_noted}
 use Rattle.clap.specs.Facts.{explicit_source, unwrap_or_range}
@@ -29,6 +29,20 @@ then_none (k ∷ ks) b e = cc
 pub first_none : (a b : Kinds) → or_else a b ≡ [] → a ≡ []
 first_none [] b e = refl
 first_none (k ∷ ks) b e = cc
+
+-- what each of a list is
+abbrev pub EachIs : {X : Type 0} (P : X → Type 0) → List X → Type 0
+EachIs P [] = Unit {0}
+EachIs P (x ∷ xs) = P x × EachIs P xs
+
+-- the one is that is found, and passes
+pub found_is : {X : Type 0} (P : X → Type 0) (test : X → Bool) (xs : List X) → EachIs P xs → (x : X) → find test xs ≡ Some x → P x × (test x ≡ true)
+found_is P test [] each x e = cc
+found_is {X} P test (y ∷ ys) each x e = go (test y) refl (found_is P test ys each.1 x)
+  where
+    go : (b : Bool) → test y ≡ b → (find test ys ≡ Some x → P x × (test x ≡ true)) → P x × (test x ≡ true)
+    go true t later = let same : Some y ≡ Some x = rw t at e in subst (λ (z : X). P z × (test z ≡ true)) (ap (λ (o : Option X). unwrap_or o y) same) (each.0, t)
+    go false t later = later (rw t at e)
 
 -- where a level has no fault, its last checks pass
 pub level_checked : (s : Shape) (names : Names) (h : Held) (words : List Text) (has : Bool) (below : Kinds) → level_fault s names h words has below ≡ []
@@ -54,6 +68,10 @@ wanted true below argument e = cc
 abbrev pub leaf : Shape → Shape
 leaf s = built_leaf (inherited (with_leaf_noted (marked_built request_line.top)) s)
 
+-- the texts of an argument in rows
+abbrev pub texts_in : Text → List Row → List Text
+texts_in name rows = unwrap_or (all_of name rows) []
+
 -- ---- a walk keeps what each use of an argument keeps
 
 -- a use of the argument that does not fail keeps this of the rows
@@ -66,16 +84,14 @@ KeepsIf again P (Some a) = Keeps again P a
 
 -- each of these arguments does
 abbrev pub EachKeeps : Bool → (List Row → Type 0) → List Rule → Type 0
-EachKeeps again P [] = Unit {0}
-EachKeeps again P (a ∷ rest) = Keeps again P a × EachKeeps again P rest
+EachKeeps again P = EachIs (Keeps again P)
 
 pub found_keeps : (again : Bool) (P : List Row → Type 0) (c : List Rule) → EachKeeps again P c → (test : Rule → Bool) → KeepsIf again P (find test c)
-found_keeps again P [] all test = tt
-found_keeps again P (a ∷ rest) all test = go (test a) (found_keeps again P rest all.1 test)
+found_keeps again P c all test = go (find test c) refl
   where
-    go : (b : Bool) → KeepsIf again P (find test rest) → KeepsIf again P (if b then Some a else find test rest)
-    go true k = all.0
-    go false k = k
+    go : (o : Option Rule) → find test c ≡ o → KeepsIf again P o
+    go None e = tt
+    go (Some a) e = (found_is (Keeps again P) test c all a e).0
 
 module _ (c : List Rule) (again : Bool) (P : List Row → Type 0) (all : (test : Rule → Bool) → KeepsIf again P (find test c)) where
   used_by_id_keeps : (o : Option Rule) (values : List Text) (rows : List Row) → KeepsIf again P o → P rows → option_map_or (λ a. use_fault again a values rows) o [] ≡ [] → P (used_by_id o values rows)
@@ -232,8 +248,7 @@ module _ (s : Shape) (names : Names) (P : List Row → Type 0) (all : (test : Ru
 -- ---- an argument without a default adds no row at the end
 
 abbrev pub HasNoDefaults : List Rule → Type 0
-HasNoDefaults [] = Unit {0}
-HasNoDefaults (a ∷ rest) = (a.defaults ≡ []) × HasNoDefaults rest
+HasNoDefaults = EachIs (λ a. a.defaults ≡ [])
 
 pub no_default : (a : Rule) (rows : List Row) → a.defaults ≡ [] → with_default rows a ≡ rows
 no_default a rows none = rw none (go (has_row a.id rows))

@@ -6,12 +6,10 @@ pub mod WatchRows
 pub mod SaidTexts
 pub mod Digits
 pub mod PeriodWords
-pub mod LossesRows
 pub mod WordLemmas
 pub mod LoneFlags
 pub mod PlainWords
 pub mod AskingWords
-pub mod BlockWords
 pub mod ArgumentRows
 pub mod ArgumentWalks
 pub mod Handled

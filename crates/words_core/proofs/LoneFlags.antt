@@ -1,18 +1,17 @@
--- What the words of one command may be that have no fault, where it has flags for help and the version, and perhaps the options.
+-- What the words of a command may be that have no fault, where it has flags for help and the version alone.
 use Rattle.std.proofs.Common.{◌≡◌, ◌&&◌, ℕ, suc, Bool, true, false, not, List, [], ◌∷◌, length, Option, Some, None, is_some, cond, refl}
 use Rattle.std.specs.Prelude.{drop, encode_utf8, find, slice_get}
 use Rattle.std.specs.Option.{option_map_or}
-use Rattle.std.specs.List.{list_any}
 use Rattle.std.specs.Str.{bytes_eq, chars}
 use Rattle.std.proofs.lemmas.Slice.Eq.{bytes_eq-Decides}
 use Rattle.clap.specs.Lexer.{long_of, short_of}
 use Rattle.clap.specs.Words.{Kinds, Row, Rule, Shape, Text}
 use Rattle.clap.specs.Faults.{bundle_fault, flag_word_fault, flags_fault, long_fault, other_fault, short_fault, step_fault, turn_fault, walk_fault}
 use Rattle.clap.specs.Simple.{filled, help_rule, version_rule, with_index}
-use Rattle.clap.specs.Walk.{Held, Names, Step, Walk, after_flag, arg_by_index, arg_by_long, arg_by_short, bundle_met, has_long, has_short, idle, long_or_other, nothing_held, plain, short_or_plain, subcommand_met, subcommand_or_other, value, walk_from, walked}
+use Rattle.clap.specs.Walk.{Held, Names, Step, Waiting, Walk, after_flag, arg_by_index, arg_by_long, arg_by_short, bundle_met, has_long, has_short, idle, long_or_other, nothing_held, plain, short_or_plain, subcommand_met, subcommand_or_other, value, walk_from, walked}
 use Rattle.clap.specs.declared.error.kind.ErrorKind.TheVariants as kind
 use Rattle.words_core.proofs.KeptRows.{first_none, then_none}
-use Rattle.words_core.proofs.OptionWalks.{between, dashes, held}
+use Rattle.words_core.proofs.OptionWalks.{Pending, between, dashes, held, state}
 
 abbrev pub help_flag : Rule
 help_flag = with_index 1 (filled help_rule)
@@ -29,56 +28,36 @@ pub turn_none : (s : Shape) (names : Names) (w : Walk) (word : Text) (words : Li
 unfolding walk_fault
 turn_none s names w word words e = (first_none _ _ e, then_none _ _ e)
 
--- a long name is that of one of these arguments
-abbrev pub is_long_of : List Rule → Text → Bool
-is_long_of c name = list_any (λ a. not (is_some a.index) && has_long a name) c
+-- the rules are the flags for help and the version, or one of them
+abbrev pub AreFlags : List Rule → Type 1
+AreFlags c = (P : Option Rule → Type 0) → P None → P (Some help_flag) → P (Some version_flag) → (test : Rule → Bool) → P (find test c)
 
-abbrev pub names_one : List Rule → Option (Text × Option Text) → Bool
-names_one c None = false
-names_one c (Some p) = is_long_of c p.0
+-- behind the mark each word is one too many
+abbrev pub marked : Waiting → List Row → Pending → Walk
+marked waiting rows pending = record (state waiting rows pending) { is_trailing = true }
 
--- the first of a word's short names is that of one of these
-abbrev pub short_is_of : List Rule → ℕ → Bool
-short_is_of c x = list_any (λ a. not (is_some a.index) && has_short a x) c
+pub nothing_behind : (s : Shape) (names : Names) → arg_by_index s.rules 1 ≡ None → (waiting : Waiting) (rows : List Row) (pending : Pending) (words : List Text)
+    → walk_fault s names (marked waiting rows pending) words ≡ [] → words ≡ []
+nothing_behind s names none waiting rows pending [] e = refl
+nothing_behind s names none waiting rows pending (x ∷ xs) e = absurd (stray s.is_leaf (rw none at (turn_none s names (marked waiting rows pending) x xs e).0))
 
-abbrev pub begins_one : List Rule → Option Text → Bool
-begins_one c None = false
-begins_one c (Some bundle) = option_map_or (short_is_of c) (slice_get (chars bundle) 0) false
-
-begins_no_one : (o : Option Text) → begins_one [] o ≡ false
-begins_no_one None = refl
-begins_no_one (Some bundle) = go (slice_get (chars bundle) 0)
-  where
-    go : (x : Option ℕ) → option_map_or (short_is_of []) x false ≡ false
-    go None = refl
-    go (Some x) = refl
-
-names_no_one : (o : Option (Text × Option Text)) → names_one [] o ≡ false
-names_no_one None = refl
-names_no_one (Some p) = refl
-
--- the rules are the flags for help and the version, or one of them, and others
-abbrev pub AreFlags : List Rule → List Rule → Type 1
-AreFlags c others = (P : Option Rule → Type 0) → P None → P (Some help_flag) → P (Some version_flag) → (test : Rule → Bool) → list_any test others ≡ false → P (find test c)
-
--- a command of such rules, between two words: a word that names none of the others fails
-module _ (s : Shape) (names : Names) (others : List Rule) (flags : AreFlags s.rules others) (none : arg_by_index s.rules 1 ≡ None)
-    (rows : List Row) where
+-- a command of such rules, before its first word: one that is not the mark fails
+module _ (s : Shape) (names : Names) (flags : AreFlags s.rules) (none : arg_by_index s.rules 1 ≡ None) where
   abbrev h : Held
-  h = held rows None
+  h = held [] None
 
-  long_fails : (name : Text) (v : Option Text) → is_long_of others name ≡ false → long_fault s.rules s.args_override_self (arg_by_long s.rules name) v h ≡ [] → ⊥
-  long_fails name None other = flags (λ o. long_fault s.rules s.args_override_self o None h ≡ [] → ⊥) (λ e. cc) (λ e. cc) (λ e. cc) (λ a. not (is_some a.index) && has_long a name) other
-  long_fails name (Some v) other = flags (λ o. long_fault s.rules s.args_override_self o (Some v) h ≡ [] → ⊥) (λ e. cc) (λ e. cc) (λ e. cc) (λ a. not (is_some a.index) && has_long a name) other
+  long_fails : (name : Text) (v : Option Text) → long_fault s.rules s.args_override_self (arg_by_long s.rules name) v h ≡ [] → ⊥
+  long_fails name None = flags (λ o. long_fault s.rules s.args_override_self o None h ≡ [] → ⊥) (λ e. cc) (λ e. cc) (λ e. cc) (λ a. not (is_some a.index) && has_long a name)
+  long_fails name (Some v) = flags (λ o. long_fault s.rules s.args_override_self o (Some v) h ≡ [] → ⊥) (λ e. cc) (λ e. cc) (λ e. cc) (λ a. not (is_some a.index) && has_long a name)
 
-  short_fails : (x : ℕ) (rest : Text) (next : Held → Kinds) → short_is_of others x ≡ false → short_fault s.rules s.args_override_self (arg_by_short s.rules x) rest h next ≡ [] → ⊥
-  short_fails x rest next other = flags (λ o. short_fault s.rules s.args_override_self o rest h next ≡ [] → ⊥) (λ e. cc) (λ e. cc) (λ e. cc) (λ a. not (is_some a.index) && has_short a x) other
+  short_fails : (x : ℕ) (rest : Text) (next : Held → Kinds) → short_fault s.rules s.args_override_self (arg_by_short s.rules x) rest h next ≡ [] → ⊥
+  short_fails x rest next = flags (λ o. short_fault s.rules s.args_override_self o rest h next ≡ [] → ⊥) (λ e. cc) (λ e. cc) (λ e. cc) (λ a. not (is_some a.index) && has_short a x)
 
-  bundle_fails : (n : ℕ) (bundle : Text) (x : ℕ) → slice_get (chars bundle) 0 ≡ Some x → begins_one others (Some bundle) ≡ false → flags_fault s.rules s.args_override_self (suc n) bundle 0 h ≡ [] → ⊥
+  bundle_fails : (n : ℕ) (bundle : Text) (x : ℕ) → slice_get (chars bundle) 0 ≡ Some x → flags_fault s.rules s.args_override_self (suc n) bundle 0 h ≡ [] → ⊥
   unfolding flags_fault
-  bundle_fails n bundle x c first e =
+  bundle_fails n bundle x c e =
       let rest = drop (length (encode_utf8 x)) bundle in
-      short_fails x rest (flags_fault s.rules s.args_override_self n rest 0) (rw c at first) (rw c at e)
+      short_fails x rest (flags_fault s.rules s.args_override_self n rest 0) (rw c at e)
 
   -- what stands for a positional is one word too many: there is none
   abbrev Passes : Held × Step → Type 0
@@ -91,50 +70,38 @@ module _ (s : Shape) (names : Names) (others : List Rule) (flags : AreFlags s.ru
   unfolding bundle_met
   bundle_passes n bundle word c e = stray_fails h (rw c at e)
 
-  short_or_fails : (word : Text) (o : Option Text) → begins_one others o ≡ false → option_map_or (λ bundle. bundle_fault s.rules s.args_override_self bundle h) o [] ≡ [] → Passes (short_or_plain s.rules idle word o h) → ⊥
+  short_or_fails : (word : Text) (o : Option Text) → option_map_or (λ bundle. bundle_fault s.rules s.args_override_self bundle h) o [] ≡ [] → Passes (short_or_plain s.rules idle word o h) → ⊥
   unfolding bundle_met
-  short_or_fails word None first f e = stray_fails h e
-  short_or_fails word (Some []) first f e = stray_fails h e
-  short_or_fails word (Some (x ∷ xs)) first f e = go (slice_get (chars (x ∷ xs)) 0) refl
+  short_or_fails word None f e = stray_fails h e
+  short_or_fails word (Some []) f e = stray_fails h e
+  short_or_fails word (Some (x ∷ xs)) f e = go (slice_get (chars (x ∷ xs)) 0) refl
     where
       go : (o : Option ℕ) → slice_get (chars (x ∷ xs)) 0 ≡ o → ⊥
       go None c = bundle_passes (length xs) (x ∷ xs) word c e
-      go (Some k) c = bundle_fails (length xs) (x ∷ xs) k c first f
+      go (Some k) c = bundle_fails (length xs) (x ∷ xs) k c f
 
-  long_or_fails : (word : Text) (o : Option (Text × Option Text)) → names_one others o ≡ false → begins_one others (short_of word) ≡ false → flag_word_fault s.rules s.args_override_self o word h ≡ [] → Passes (long_or_other s.rules idle word o h) → ⊥
-  long_or_fails word (Some p) other first f e = long_fails p.0 p.1 other f
-  long_or_fails word None other first f e = short_or_fails word (short_of word) first f e
+  long_or_fails : (word : Text) (o : Option (Text × Option Text)) → flag_word_fault s.rules s.args_override_self o word h ≡ [] → Passes (long_or_other s.rules idle word o h) → ⊥
+  long_or_fails word (Some p) f e = long_fails p.0 p.1 f
+  long_or_fails word None f e = short_or_fails word (short_of word) f e
 
-  other_fails : (word : Text) (o : Option Text) (b : Bool) → o ≡ None → bytes_eq word dashes ≡ b → b ≡ false → names_one others (long_of word) ≡ false → begins_one others (short_of word) ≡ false → other_fault s o word h ≡ []
-      → Passes (subcommand_or_other s.rules o idle 1 word h) → ⊥
-  other_fails word (Some n) b m d u other first f e = cc
-  other_fails word None true m d u other first f e = cc
-  other_fails word None false m d u other first f e = long_or_fails word (long_of word) other first (rw d at f) (rw d at e)
+  other_fails : (word : Text) (o : Option Text) → o ≡ None → bytes_eq word dashes ≡ false → other_fault s o word h ≡ [] → Passes (subcommand_or_other s.rules o idle 1 word h) → ⊥
+  other_fails word (Some n) m d f e = cc
+  other_fails word None m d f e = long_or_fails word (long_of word) (rw d at f) (rw d at e)
 
-  pub turn_fails : (word : Text) → subcommand_met names idle word ≡ None → bytes_eq word dashes ≡ false → names_one others (long_of word) ≡ false → begins_one others (short_of word) ≡ false → turn_fault s names (between rows None) word ≡ [] → ⊥
-  turn_fails word m d other first e =
+  turn_fails : (word : Text) → subcommand_met names idle word ≡ None → bytes_eq word dashes ≡ false → turn_fault s names (between [] None) word ≡ [] → ⊥
+  turn_fails word m d e =
       let named = subcommand_met names idle word in
       let met = subcommand_or_other s.rules named idle 1 word h in
       let word_none = first_none (other_fault s named word h) (step_fault s 1 met.0 met.1) e in
       let step_none = then_none (other_fault s named word h) (step_fault s 1 met.0 met.1) e in
-      other_fails word named (bytes_eq word dashes) m refl d other first word_none step_none
+      other_fails word named m d word_none step_none
 
-  -- behind the mark each word is one too many
-  trailing_fails : (word : Text) → turn_fault s names (record (between rows None) { is_trailing = true }) word ≡ [] → ⊥
-  trailing_fails word e = stray_fails h e
-
-  -- the mark stands last
-  pub nothing_behind : (rest : List Text) → walk_fault s names (record (between rows None) { is_trailing = true }) rest ≡ [] → rest ≡ []
-  nothing_behind [] e = refl
-  nothing_behind (x ∷ xs) e = absurd (trailing_fails x (turn_none s names (record (between rows None) { is_trailing = true }) x xs e).0)
-
--- a first word that names no subcommand is the mark, and stands alone, where there are no other arguments
-pub lone_mark : (s : Shape) (names : Names) → AreFlags s.rules [] → arg_by_index s.rules 1 ≡ None → (word : Text) (words : List Text) → subcommand_met names idle word ≡ None
-    → walk_fault s names (walk_from nothing_held) (word ∷ words) ≡ [] → (word ≡ dashes) × (words ≡ [])
-unfolding walked
-lone_mark s names flags none word words m e = go (bytes_eq word dashes) refl (turn_none s names (walk_from nothing_held) word words e)
-  where
-    go : (b : Bool) → bytes_eq word dashes ≡ b → (turn_fault s names (walk_from nothing_held) word ≡ []) × (walk_fault s names (walked s.rules names (walk_from nothing_held) word) words ≡ [])
-        → (word ≡ dashes) × (words ≡ [])
-    go false d h = absurd (turn_fails s names [] flags none [] word m d (names_no_one (long_of word)) (begins_no_one (short_of word)) h.0)
-    go true d h = ((bytes_eq-Decides word dashes).0 d, nothing_behind s names [] flags none [] words (rw (m, d) at h.1))
+  -- a first word that names no subcommand is the mark, and stands alone
+  pub lone_mark : (word : Text) (words : List Text) → subcommand_met names idle word ≡ None → walk_fault s names (walk_from nothing_held) (word ∷ words) ≡ [] → (word ≡ dashes) × (words ≡ [])
+  unfolding walked
+  lone_mark word words m e = go (bytes_eq word dashes) refl (turn_none s names (walk_from nothing_held) word words e)
+    where
+      go : (b : Bool) → bytes_eq word dashes ≡ b → (turn_fault s names (walk_from nothing_held) word ≡ []) × (walk_fault s names (walked s.rules names (walk_from nothing_held) word) words ≡ [])
+          → (word ≡ dashes) × (words ≡ [])
+      go false d h = absurd (turn_fails word m d h.0)
+      go true d h = ((bytes_eq-Decides word dashes).0 d, nothing_behind s names none idle [] None words (rw (m, d) at h.1))

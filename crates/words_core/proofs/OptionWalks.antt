@@ -3,7 +3,7 @@ use Rattle.std.proofs.Common.{◌≡◌, ◌&&◌, Bool, true, false, List, [], 
 use Rattle.std.specs.Prelude.{fold}
 use Rattle.clap.specs.Words.{Row, Shape, Text}
 use Rattle.clap.specs.Takes.{settle_passes, walk_passes}
-use Rattle.clap.specs.Walk.{Held, Waiting, Walk, idle, settled_rows, walked}
+use Rattle.clap.specs.Walk.{Held, Waiting, Walk, idle, settled_rows, subcommand_met, walked}
 use Rattle.clap.proofs.WalkLemmas.{both}
 
 pub both_true : (a b : Bool) → a ≡ true → b ≡ true → (a && b) ≡ true
@@ -25,6 +25,11 @@ state waiting rows pending = record { held = held rows pending; waiting = waitin
 
 abbrev pub between : List Row → Pending → Walk
 between = state idle
+
+-- a command without subcommands meets none
+pub meets_none : (waiting : Waiting) (word : Text) → subcommand_met [] waiting word ≡ None
+meets_none idle word = refl
+meets_none _ word = refl
 
 -- the rows with what is pending, and whether that passes
 abbrev pub settled_to : Shape → List Row → Pending → List Row

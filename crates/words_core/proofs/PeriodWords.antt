@@ -1,26 +1,23 @@
 -- The texts of periods: what each says, and what they all say in order.
-use Rattle.std.proofs.Common.{◌≡◌, ◌∙◌, ◌==◌, ◌<◌, ◌≤◌, ◌^◌, ℕ, zero, suc, Bool, true, false, List, [], ◌∷◌, ◌++◌, map, length, take, drop, take-append-drop, Option, Some, None, get_or, refl, sym, ap, ap₂, subst, arith, if◌then◌else◌}
-use Rattle.std.specs.Prelude.{Ok, Err, MatchOption, option_map}
+use Rattle.std.proofs.Common.{◌≡◌, ◌∙◌, ◌==◌, ◌<◌, ◌≤◌, ◌^◌, ℕ, zero, suc, Bool, true, false, List, [], ◌∷◌, ◌++◌, length, drop, take-append-drop, Option, Some, None, get_or, refl, sym, ap, ap₂, subst, arith, if◌then◌else◌}
+use Rattle.std.specs.Prelude.{Ok, MatchOption, option_map}
 use Rattle.std.specs.List.{cons_option}
 use Rattle.std.specs.Borrow.{Bor}
-use Rattle.std.specs.Option.{option_map_or}
 use Rattle.std.specs.Str.Parse.{AllDigits, IsNumeral, ParsesUnsigned, digits_value, without_leading_plus}
 use Rattle.std.specs.Str.Pattern.{RFindsChar, SplitsAroundMatch}
 use Rattle.std.proofs.lemmas.Bool.{ne_eqb}
 use Rattle.std.proofs.lemmas.Str.Pattern.{NoCharPasses-char, drop_at_char}
 use Rattle.std.proofs.lemmas.Str.Parse.{digit_from_value}
 use Rattle.clap.specs.Words.{Text}
-use Rattle.clap.specs.Walk.{texts}
 use Rattle.clap.specs.ValueTests.{is_unsigned_in}
 use Rattle.clap.specs.declared.builder.value_parser.ValueParser.TheVariants as parses
 use Rattle.clap.proofs.ValueTestLemmas.{Accepts-accepts, accepts-Accepts}
 use Rattle.block_core.specs.Period.{IsPeriod}
 use Rattle.loss_core.specs.Periods.{ArePeriods, Period}
 use Rattle.loss_core.proofs.PeriodLemmas.{and_others, none_are}
-use Rattle.words_core.specs.CommandLine.{divided, losses, losses_of, no_period, period_at, period_number, period_of_parts, periods_in}
+use Rattle.words_core.specs.CommandLine.{divided, period_at, period_number, period_of_parts, periods_in}
 use Rattle.words_core.specs.RequestLine.{period_text}
 use Rattle.words_core.proofs.Digits.{no_plus}
-use Rattle.words_core.proofs.SaidTexts as said
 
 -- ---- the number
 
@@ -89,21 +86,6 @@ with_option (Some p) rest is are = and_others p rest is are
 pub periods_in_range : (texts : List Text) → ArePeriods (periods_in texts)
 periods_in_range [] = none_are
 periods_in_range (t ∷ ts) = with_option (period_at t) (periods_in ts) (period_in_range t (divided t)) (periods_in_range ts)
-
--- ---- texts in order
-
-pub all_said : (periods : List Period) (texts : List Text) → map Some periods ≡ map period_at texts → losses_of texts ≡ Ok (losses periods)
-all_said periods texts e =
-    ap (λ (o : Option ℕ). option_map_or (λ i. Err (no_period i)) o (Ok (losses (periods_in texts)))) (said.none_bad period_at periods texts e)
-    ∙ ap (λ (l : List Period). Ok (losses l)) (said.all_in period_at periods texts e)
-
-pub said_none : (words : List (Bor Text)) (i : ℕ) (d : Bor Text) (periods : List Period) → i < length words
-    → map Some periods ≡ map period_at (texts (take i words)) → period_at (get_or words i d).now ≡ None → losses_of (texts words) ≡ Err (no_period i)
-said_none words i d periods inside before none =
-    ap (λ (o : Option ℕ). option_map_or (λ k. Err (no_period k)) o (Ok (losses (periods_in (texts words))))) (said.said_none period_at words i d periods inside before none)
-
-pub said_all : (words : List (Bor Text)) (i : ℕ) (periods : List Period) → length words ≤ i → map Some periods ≡ map period_at (texts (take i words)) → losses_of (texts words) ≡ Ok (losses periods)
-said_all words i periods behind all = all_said periods (texts words) (said.said_all period_at words i periods behind all)
 
 -- ---- the digits behind the last `=`
 

@@ -1,5 +1,5 @@
 -- The options as one list, in which each is found by its name: what holds all along the list holds of each.
-use Rattle.std.proofs.Common.{◌≡◌, ◌||◌, ◌&&◌, ◌∙◌, Bool, true, false, true≢false, List, ◌∷◌, Option, Some, None, option_map, unwrap_or, refl, sym, ap}
+use Rattle.std.proofs.Common.{◌≡◌, ◌||◌, ◌∙◌, Bool, true, false, true≢false, List, ◌∷◌, Option, Some, None, option_map, unwrap_or, refl, sym, ap}
 use Rattle.std.specs.Prelude.{find}
 use Rattle.std.specs.List.{list_all}
 use Rattle.std.specs.Str.{bytes_eq}
@@ -8,6 +8,7 @@ use Rattle.words_core.specs.declared.option_words.Options.{Options}
 use Rattle.words_core.specs.declared.option_words.Writing.{Writing}
 use Rattle.words_core.specs.declared.option_words.Writing.TheVariants.{Lines, Dated, Objects}
 use Rattle.clap.specs.Words.{Row, Text}
+use Rattle.clap.proofs.WalkLemmas.{both}
 use Rattle.words_core.specs.RequestLine.{Switch, capture, is_dated, is_object, is_on, is_option, is_set, json, options_given, options_in, replay_switches, switch_name, switch_word, time, writing_by}
 
 pub both_false : (a b : Bool) → (a || b) ≡ false → (a ≡ false) × (b ≡ false)
@@ -27,20 +28,35 @@ pub one_name : (s o : Switch) → bytes_eq (switch_name s) (switch_name o) ≡ t
 one_name s o e =
     ap (λ (x : Option Switch). unwrap_or x s) (sym (by_own_name s) ∙ ap by_name ((bytes_eq-Decides (switch_name s) (switch_name o)).0 e) ∙ by_own_name o)
 
+-- texts that differ
+pub differs : (a b : Text) → (b ≡ a → ⊥) → bytes_eq a b ≡ false
+differs a b other = go (bytes_eq a b) refl
+  where
+    go : (x : Bool) → bytes_eq a b ≡ x → x ≡ false
+    go true e = absurd (other (sym ((bytes_eq-Decides a b).0 e)))
+    go false e = refl
+
+-- a name that no option has
+module _ (id : Text) (none : by_name id ≡ None) where
+  pub not_named : (o : Switch) → switch_name o ≡ id → ⊥
+  not_named o same = let bad : Some o ≡ None = sym (by_own_name o) ∙ ap by_name same ∙ none in cc
+
+  pub apart : (o : Switch) → bytes_eq (switch_name o) id ≡ false
+  apart o = differs (switch_name o) id (λ same. not_named o (sym same))
+
+  pub apart_from : (o : Switch) → bytes_eq id (switch_name o) ≡ false
+  apart_from o = differs id (switch_name o) (not_named o)
+
 -- the options that a command takes: those of all that read events, or all
 abbrev pub is_common : Switch → Bool
 is_common o = is_option (switch_word o)
-
-anded : (a b : Bool) → (a && b) ≡ true → (a ≡ true) × (b ≡ true)
-anded true b e = (refl, e)
-anded false b e = absurd (true≢false (sym e))
 
 -- the options are those of which a test holds
 abbrev pub AreAll : (Switch → Bool) → List Switch → Type 0
 AreAll has os = list_all has os ≡ true
 
 pub first_has : (has : Switch → Bool) (o : Switch) (os : List Switch) → AreAll has (o ∷ os) → (has o ≡ true) × AreAll has os
-first_has has o os all = anded (has o) (list_all has os) all
+first_has has o os all = both (has o) (list_all has os) all
 
 -- ---- which are on
 

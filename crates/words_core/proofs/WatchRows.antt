@@ -21,10 +21,11 @@ use Rattle.clap.proofs.WalkLemmas.{one_text-rows}
 use Rattle.clap.proofs.CallerReads.{signed_reads}
 use Rattle.clap.proofs.ValueTestLemmas.{Accepts-accepts, accepts-Accepts}
 use Rattle.block_core.specs.Period.{IsPeriod}
-use Rattle.words_core.specs.RequestLine.{Switch, capture, offered, switch_name, switches}
+use Rattle.words_core.specs.RequestLine.{Switch, offered, switch_name, switches}
 use Rattle.words_core.specs.CommandLine.{Meaning, id_rule, number_said, period_rule, watch, watch_asked, watch_shape}
 use Rattle.words_core.proofs.KeptRows.{EachKeeps, Keeps, Kept, end_keeps, found_keeps, given_value, leaf, level_checked, more_keeps, no_default, no_defaults, set_keeps, single_keeps, then_none, wanted}
 use Rattle.words_core.proofs.OptionRows.{read_flag, self_eq, switch_flag}
+use Rattle.words_core.proofs.Switches.{not_named}
 
 -- ---- what a text is read as
 
@@ -70,19 +71,14 @@ read_said E G only (Some t) r none value = parsed_is_said E t r (go r (value t r
     go (Some n) g = only t (Ok n) g
     go None g = (g.0, only t (Err g.0) g.1)
 
-period_read : (E : Type 0) (G : List ℕ → Result ℕ E → Type 0) → ((u : List ℕ) (x : Result ℕ E) → G u x → ParsesUnsigned 32 10 u x) → (f : Found) (r : Option ℕ)
-    → (one_text f (codes "period") ≡ None → r ≡ None) → ((t : Text) → one_text f (codes "period") ≡ Some t → ReadsOne {E = E} G t r)
-    → r ≡ option_and_then number_said (one_of (codes "period") (rows_of f))
-period_read E G only f r none value =
-    read_said E G only (one_text f (codes "period")) r none value ∙ ap (option_and_then number_said) (one_text-rows f (codes "period"))
-
 -- how a number is parsed
 abbrev IsParsed : List ℕ → Result ℕ ParseIntError → Type 0
 IsParsed bs r = ParsesUnsigned 32 10 bs r × ExplainsUnsignedError 10 bs r × HasUnsignedDigitsIfOk bs r
 
 pub period_parsed : (f : Found) (r : Option ℕ) → (one_text f (codes "period") ≡ None → r ≡ None) → ((t : Text) → one_text f (codes "period") ≡ Some t → ReadsOne {E = ParseIntError} IsParsed t r)
     → r ≡ option_and_then number_said (one_of (codes "period") (rows_of f))
-period_parsed = period_read ParseIntError IsParsed (λ u x g. g.0)
+period_parsed f r none value =
+    read_said ParseIntError IsParsed (λ u x g. g.0) (one_text f (codes "period")) r none value ∙ ap (option_and_then number_said) (one_text-rows f (codes "period"))
 
 -- ---- the options as they are built
 
@@ -102,26 +98,12 @@ help_option = with_index 1 (filled help_rule)
 help_keeps : (P : List Row → Type 0) → Keeps false P help_option
 help_keeps P values rows g e = let bad = then_none (range_kinds 0 0 (length values)) (kind.DisplayHelp ∷ []) e in cc
 
-pub not_read : (id : Text) → bytes_eq (codes "read") id ≡ false → codes "read" ≡ id → ⊥
-not_read id e same = true≢false (sym (subst (λ (w : Text). bytes_eq w id ≡ true) (sym same) (self_eq id)) ∙ e)
-
-two_names : codes "id" ≡ codes "period" → ⊥
-two_names e = true≢false (sym (ap (λ (w : Text). bytes_eq w (codes "period")) e))
+pub not_same : (a b : Text) → bytes_eq a b ≡ false → a ≡ b → ⊥
+not_same a b e same = true≢false (sym (subst (λ (w : Text). bytes_eq w b ≡ true) (sym same) (self_eq b)) ∙ e)
 
 -- an option leaves what is kept of another argument
 switch_keeps : (a : Rule) (o : Switch) → (switch_name o ≡ a.id → ⊥) → Keeps false (Kept a) (switch_flag o)
 switch_keeps a o other values rows h e = set_keeps a (switch_flag o) (values_or_missing (switch_flag o) values) rows (λ e. absurd (other e)) h
-
-apart : (o : Switch) (id : Text) → bytes_eq (switch_name o) id ≡ false → switch_name o ≡ id → ⊥
-apart o id e same = true≢false (sym (subst (λ (w : Text). bytes_eq w id ≡ true) (sym same) (self_eq id)) ∙ e)
-
-pub not_period : (o : Switch) → switch_name o ≡ codes "period" → ⊥
-not_period capture = apart capture (codes "period") refl
-not_period o = apart o (codes "period") refl
-
-not_id : (o : Switch) → switch_name o ≡ codes "id" → ⊥
-not_id capture = apart capture (codes "id") refl
-not_id o = apart o (codes "id") refl
 
 -- the options and the flag for help do, and so
 pub switches_keep : (a : Rule) → ((o : Switch) → switch_name o ≡ a.id → ⊥) → (os : List Switch) → EachKeeps false (Kept a) (map switch_flag os ++ help_option ∷ [])
@@ -131,13 +113,13 @@ switches_keep a other (o ∷ os) = (switch_keeps a o (other o), switches_keep a 
 period_kept : EachKeeps false (Kept period_option) watches.rules
 period_kept = (
   single_keeps false period_option period_option (refl, refl) (λ e. refl),
-  (single_keeps false period_option id_option (refl, refl) (λ e. absurd (two_names e)), (single_keeps false period_option read_flag (refl, refl) (λ e. absurd (not_read (codes "period") refl e)), switches_keep period_option not_period switches)),
+  (single_keeps false period_option id_option (refl, refl) (λ e. absurd (not_same (codes "id") (codes "period") refl e)), (single_keeps false period_option read_flag (refl, refl) (λ e. absurd (not_same (codes "read") (codes "period") refl e)), switches_keep period_option (not_named (codes "period") refl) switches)),
 )
 
 id_kept : EachKeeps false (Kept id_option) watches.rules
 id_kept = (
-  single_keeps false id_option period_option (refl, refl) (λ e. absurd (two_names (sym e))),
-  (single_keeps false id_option id_option (refl, refl) (λ e. refl), (single_keeps false id_option read_flag (refl, refl) (λ e. absurd (not_read (codes "id") refl e)), switches_keep id_option not_id switches)),
+  single_keeps false id_option period_option (refl, refl) (λ e. absurd (not_same (codes "period") (codes "id") refl e)),
+  (single_keeps false id_option id_option (refl, refl) (λ e. refl), (single_keeps false id_option read_flag (refl, refl) (λ e. absurd (not_same (codes "read") (codes "id") refl e)), switches_keep id_option (not_named (codes "id") refl) switches)),
 )
 
 -- words of `watch` without a fault
@@ -181,7 +163,7 @@ given words f = both (is_given (codes "period") (rows words)) (is_given (codes "
 pub watch_says : (words : List Text) → IsFaultless words → (n : ℕ) × (t : Text) × (watch_asked (rows words) ≡ Some (Ok (watch n t))) × IsPeriod n
 watch_says words f =
     let both = given words f in
-    let period = given_value period_option (rows words) (kept_rows period_option not_period period_kept words f) both.0 in
-    let id = given_value id_option (rows words) (kept_rows id_option not_id id_kept words f) both.1 in
+    let period = given_value period_option (rows words) (kept_rows period_option (not_named (codes "period") refl) period_kept words f) both.0 in
+    let id = given_value id_option (rows words) (kept_rows id_option (not_named (codes "id") refl) id_kept words f) both.1 in
     let n = says_period period.0 (accepts-Accepts false (parses.Signed (pos 2) (pos 65536)) period.0 period.3) in
     (n.0, id.0, rw (period.2, id.1) (ap (option_map {T = ℕ} {U = Meaning} (λ (k : ℕ). Ok (watch k id.0))) n.1), n.2)

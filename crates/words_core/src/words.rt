@@ -646,18 +646,6 @@ fn names_blocks(task: &Task) -> bool
     }
 }
 
-// The task, where it is no replay, or one of a control block at least.
-fn with_blocks(alloc: Global, task: Task) -> Result<Task, WordsError>
-    ensures named { IfOk result (λ t. (t ≡ task) × (names_blocks (asked_by task) ≡ true)) }
-    ensures unnamed { IfErr result (λ e. IsUnnamed e × (names_blocks (asked_by task) ≡ false)) }
-{
-    if names_blocks(&task) {
-        Ok(task)
-    } else {
-        Err(unnamed(alloc))
-    }
-}
-
 /// The task that the words ask for, whatever options stand beside it: the task of [`read_request`], where a replay must have a
 /// control block.
 ///
@@ -676,7 +664,13 @@ pub fn read_words<'a>(alloc: Global, words: &'a [&'a str]) -> Result<Task, Words
     ensures unsaid { (unsaid : Unsaid) → request_faults (texts words.now) ≡ [] → request_of_words (texts words.now) ≡ Some (Err unsaid) → AnswersUnsaid unsaid result }
 {
     match read_request(alloc, words) {
-        Ok(request) => with_blocks(alloc, request.task),
+        Ok(request) => {
+            if names_blocks(&request.task) {
+                Ok(request.task)
+            } else {
+                Err(unnamed(alloc))
+            }
+        }
         Err(error) => Err(error),
     }
 }

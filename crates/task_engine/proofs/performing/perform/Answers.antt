@@ -25,56 +25,20 @@ returns-in-Import-clause-text g c =
       ),
     )
 
-pub returns-in-Show-clause-text : goal.returns-in-Show-clause-text
-returns-in-Show-clause-text g c = rw c.in-Show.is c.over_events.ensures.text
+pub returns-in-Show : goal.returns-in-Show
+returns-in-Show g c = let e = c.over_events.ensures in record { text = rw c.in-Show.is e.text; passed = rw c.in-Show.is e.passed; links = rw c.in-Show.is e.links; read_fault = e.read_fault; fault = e.fault }
 
-pub returns-in-Show-clause-passed : goal.returns-in-Show-clause-passed
-returns-in-Show-clause-passed g c = rw c.in-Show.is c.over_events.ensures.passed
+pub returns-in-Check : goal.returns-in-Check
+returns-in-Check g c = let e = c.over_events-in-Check.ensures in record { text = rw c.in-Check.is e.text; passed = rw c.in-Check.is e.passed; links = rw c.in-Check.is e.links; read_fault = e.read_fault; fault = e.fault }
 
-pub returns-in-Show-clause-links : goal.returns-in-Show-clause-links
-returns-in-Show-clause-links g c = rw c.in-Show.is c.over_events.ensures.links
+pub returns-in-Blocks : goal.returns-in-Blocks
+returns-in-Blocks g c = let e = c.over_events-in-Blocks.ensures in record { text = rw c.in-Blocks.is e.text; passed = rw c.in-Blocks.is e.passed; links = rw c.in-Blocks.is e.links; read_fault = e.read_fault; fault = e.fault }
 
-pub returns-in-Check-clause-text : goal.returns-in-Check-clause-text
-returns-in-Check-clause-text g c = rw c.in-Check.is c.over_events-in-Check.ensures.text
+pub returns-in-Replay : goal.returns-in-Replay
+returns-in-Replay g c = let e = c.over_events-in-Replay.ensures in record { text = rw (c.in-Replay.is, sym c.manner_of-manner.ensures) e.text; passed = rw c.in-Replay.is e.passed; links = rw c.in-Replay.is e.links; read_fault = e.read_fault; fault = e.fault }
 
-pub returns-in-Check-clause-passed : goal.returns-in-Check-clause-passed
-returns-in-Check-clause-passed g c = rw c.in-Check.is c.over_events-in-Check.ensures.passed
+pub returns-in-Watch : goal.returns-in-Watch
+returns-in-Watch g c = let e = c.over_events-in-Watch.ensures in record { text = rw (c.in-Watch.is, sym c.as_slice-id.ensures.value) e.text; passed = rw c.in-Watch.is e.passed; links = rw c.in-Watch.is e.links; read_fault = e.read_fault; fault = e.fault }
 
-pub returns-in-Check-clause-links : goal.returns-in-Check-clause-links
-returns-in-Check-clause-links g c = rw c.in-Check.is c.over_events-in-Check.ensures.links
-
-pub returns-in-Blocks-clause-text : goal.returns-in-Blocks-clause-text
-returns-in-Blocks-clause-text g c = rw c.in-Blocks.is c.over_events-in-Blocks.ensures.text
-
-pub returns-in-Blocks-clause-passed : goal.returns-in-Blocks-clause-passed
-returns-in-Blocks-clause-passed g c = rw c.in-Blocks.is c.over_events-in-Blocks.ensures.passed
-
-pub returns-in-Blocks-clause-links : goal.returns-in-Blocks-clause-links
-returns-in-Blocks-clause-links g c = rw c.in-Blocks.is c.over_events-in-Blocks.ensures.links
-
-pub returns-in-Replay-clause-text : goal.returns-in-Replay-clause-text
-returns-in-Replay-clause-text g c = rw (c.in-Replay.is, sym c.manner_of-manner.ensures) c.over_events-in-Replay.ensures.text
-
-pub returns-in-Replay-clause-passed : goal.returns-in-Replay-clause-passed
-returns-in-Replay-clause-passed g c = rw c.in-Replay.is c.over_events-in-Replay.ensures.passed
-
-pub returns-in-Replay-clause-links : goal.returns-in-Replay-clause-links
-returns-in-Replay-clause-links g c = rw c.in-Replay.is c.over_events-in-Replay.ensures.links
-
-pub returns-in-Watch-clause-text : goal.returns-in-Watch-clause-text
-returns-in-Watch-clause-text g c = rw (c.in-Watch.is, sym c.as_slice-id.ensures.value) c.over_events-in-Watch.ensures.text
-
-pub returns-in-Watch-clause-passed : goal.returns-in-Watch-clause-passed
-returns-in-Watch-clause-passed g c = rw c.in-Watch.is c.over_events-in-Watch.ensures.passed
-
-pub returns-in-Watch-clause-links : goal.returns-in-Watch-clause-links
-returns-in-Watch-clause-links g c = rw c.in-Watch.is c.over_events-in-Watch.ensures.links
-
-pub returns-in-Losses-clause-text : goal.returns-in-Losses-clause-text
-returns-in-Losses-clause-text g c = rw c.in-Losses.is c.over_events-in-Losses.ensures.text
-
-pub returns-in-Losses-clause-passed : goal.returns-in-Losses-clause-passed
-returns-in-Losses-clause-passed g c = rw c.in-Losses.is c.over_events-in-Losses.ensures.passed
-
-pub returns-in-Losses-clause-links : goal.returns-in-Losses-clause-links
-returns-in-Losses-clause-links g c = rw c.in-Losses.is c.over_events-in-Losses.ensures.links
+pub returns-in-Losses : goal.returns-in-Losses
+returns-in-Losses g c = let e = c.over_events-in-Losses.ensures in record { text = rw c.in-Losses.is e.text; passed = rw c.in-Losses.is e.passed; links = rw c.in-Losses.is e.links; read_fault = e.read_fault; fault = e.fault }

@@ -1,9 +1,8 @@
 use Rattle.std.proofs.Common.{◌≡◌, refl, sym, subst, rules, true, Ok, Err}
 use Rattle.std.specs.Result.{is_ok}
-use Rattle.words_core.specs.CommandLine.{Meaning, block_at}
+use Rattle.words_core.specs.CommandLine.{Meaning, block_at, no_block, replay}
 use Rattle.words_core.specs.computed.PrivateCalls.{AnswersWords}
-use Rattle.words_core.proofs.BlockWords.{said_all, said_none}
-use Rattle.words_core.proofs.SaidTexts.{said_more}
+use Rattle.words_core.proofs.SaidTexts.{end_meant, none_meant, said_more}
 use Rattle.words_core.specs.declared.words.Task.TheVariants.{Replay}
 use Rattle.words_core.specs.declared.words.WordsError.TheVariants as refused
 use Rattle.words_core.proofs.words.replay_task.Goals as goal
@@ -16,10 +15,10 @@ loop-position-preserved c =
 pub returns-in-Err-BlockForm : goal.returns-in-Err-BlockForm
 returns-in-Err-BlockForm c =
     subst (λ (m : Meaning). AnswersWords m (Err (refused.Block c.loop-position.position)))
-    (sym (said_none c.args.words.now c.loop-position.position _ c.loop-position.blocks.items c.loop-position-test.true c.loop-position.invariant (rw c.in-Err-BlockForm.field-0-is at c.in-Err-BlockForm.ensures)))
+    (sym (none_meant block_at no_block replay c.args.words.now c.loop-position.position _ c.loop-position.blocks.items c.loop-position-test.true c.loop-position.invariant (rw c.in-Err-BlockForm.field-0-is at c.in-Err-BlockForm.ensures)))
     refl
 
 pub returns : goal.returns
 returns c =
     subst (λ (m : Meaning). AnswersWords m (Ok (Replay c.loop-position.blocks)))
-    (sym (said_all c.args.words.now c.loop-position.position c.loop-position.blocks.items c.loop-position-test.false c.loop-position.invariant)) refl
+    (sym (end_meant block_at no_block replay c.args.words.now c.loop-position.position c.loop-position.blocks.items c.loop-position-test.false c.loop-position.invariant)) refl

@@ -1,15 +1,6 @@
-use Rattle.std.proofs.Common.{◌≡◌, Bool, true, false, codes, refl, sym}
-use Rattle.std.specs.Str.{bytes_eq}
-use Rattle.std.proofs.lemmas.Slice.Eq.{bytes_eq-Decides}
-use Rattle.clap.specs.Words.{Text}
+use Rattle.std.proofs.Common.{codes}
+use Rattle.words_core.proofs.Switches.{differs}
 use Rattle.words_core.proofs.words.task_of.Goals as goal
-
-differs : (name word : Text) → (word ≡ name → ⊥) → bytes_eq name word ≡ false
-differs name word other = go (bytes_eq name word) refl
-  where
-    go : (b : Bool) → bytes_eq name word ≡ b → b ≡ false
-    go true e = absurd (other (sym ((bytes_eq-Decides name word).0 e)))
-    go false e = refl
 
 -- no subcommand has another name
 pub returns-in_default : goal.returns-in_default
