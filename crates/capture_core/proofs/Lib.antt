@@ -10,6 +10,7 @@ pub mod OptionsRead
 pub mod BlocksRead
 pub mod PacketsRead
 pub mod FramesKept
+pub mod FramesAtHand
 pub mod StartsRead
 pub mod StepsRead
 pub mod StagesRead

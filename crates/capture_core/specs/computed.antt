@@ -3,5 +3,6 @@
 pub mod Filling
 pub mod Sections
 pub mod OneRead
+pub mod AtHand
 pub mod Steps
 pub mod PrivateCalls

@@ -32,7 +32,7 @@ const LONGEST_BLOCK: u32 = 16_777_216;
 const MAJOR_VERSION: u16 = 1;
 
 // Whether no block has this total length.
-fn is_bad_length(least: u32, total: u32) -> bool
+pub(crate) fn is_bad_length(least: u32, total: u32) -> bool
     ensures { result ≡ is_bad_length least total }
 {
     total < least || total % 4 != 0 || total > LONGEST_BLOCK

@@ -23,6 +23,9 @@ const MOST_INTERFACES: usize = 65_536;
 /// The link type of Ethernet.
 pub(crate) const ETHERNET: u16 = 1;
 
+/// The type of an enhanced packet block.
+pub(crate) const ENHANCED: u32 = 6;
+
 /// What a block says.
 #[derive(Drop)]
 pub(crate) enum Said<A: Allocator> {
@@ -39,7 +42,8 @@ pub(crate) enum Said<A: Allocator> {
 }
 
 // Memory for octets: that of a spare event, if it has some.
-fn memory_of<A: Allocator>(alloc: A, spare: &mut Option<Event<A>>) -> Vec<u8, A> {
+#[inline(always)]
+pub(crate) fn memory_of<A: Allocator>(alloc: A, spare: &mut Option<Event<A>>) -> Vec<u8, A> {
     match spare.take() {
         Some(
             Event {
@@ -168,7 +172,7 @@ fn read_body<R: Source, A: Allocator + Copy>(
         }
         2 => PacketBlock::Obsolete,
         3 => PacketBlock::Simple,
-        6 => PacketBlock::Enhanced,
+        ENHANCED => PacketBlock::Enhanced,
         _ => {
             pass(reader, size)?;
             return Ok(Ok(Said::Passes));

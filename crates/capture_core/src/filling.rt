@@ -1,5 +1,6 @@
 //! Reading a stated count of octets.
 ghost use Rattle.std.specs.Prelude.{◌≡◌, ◌<◌, false, true, ⊤, length};
+ghost use Rattle.std.specs.Io.KnownBytes.{Consumes};
 ghost use Rattle.list_core.specs.declared.device.InputEnd.{InputEnd};
 ghost use Rattle.capture_core.specs.computed.Filling.{Fills, Passes, ReadsPart};
 
@@ -34,25 +35,39 @@ fn fill_by_reads<R: Source>(reader: &mut R, into: &mut [u8]) -> Filled
     Filled::Whole
 }
 
+// Reads to all of `into` what the source has at hand, and answers whether it did. Where it did not, nothing was taken.
+#[inline(always)]
+fn take_at_hand<R: Source>(reader: &mut R, into: &mut [u8]) -> bool
+    requires { R.ending reader.old ≡ InputEnd.Open }
+    ensures taken { result ≡ true → Consumes (R.left reader.old) (R.left reader.new) into.new }
+    ensures kept { result ≡ false → R.left reader.new ≡ R.left reader.old }
+    ensures ending { R.ending reader.new ≡ R.ending reader.old }
+{
+    let count = into.len();
+    match reader.at_hand().get(..count) {
+        Some(octets) => into.copy_from_slice(octets),
+        None => return false,
+    }
+    reader.take_at_hand(count)
+}
+
 // Reads until `into` is full, or the source has ended: at once where the source has all of it at hand, as nearly always.
 #[inline(always)]
 pub(crate) fn fill<R: Source>(reader: &mut R, into: &mut [u8]) -> Filled
     ensures { Fills (R.left reader.old) (R.ending reader.old) result into.new (R.left reader.new) (R.ending reader.new) }
 {
     match reader.ending() {
-        InputEnd::Open if reader.read_at_hand(into) => Filled::Whole,
+        InputEnd::Open if take_at_hand(reader, into) => Filled::Whole,
         _ => fill_by_reads(reader, into),
     }
 }
 
-/// How many octets are read over at a time, and how many are few: the padding behind a packet, and most options.
-const READ_OVER: usize = 4096;
-
-const FEW: usize = 16;
+/// How many octets are read over at a time, where they are not at hand.
+const READ_OVER: usize = 512;
 
 // Reads over so many octets, a piece at a time, and answers whether they were there.
 #[inline(never)]
-fn skip_many<R: Source>(reader: &mut R, size: usize) -> bool
+fn skip_by_reads<R: Source>(reader: &mut R, size: usize) -> bool
     ensures { Passes (R.left reader.old) (R.ending reader.old) size result (R.left reader.new) (R.ending reader.new) }
 {
     let mut piece = [0u8; READ_OVER];
@@ -67,17 +82,13 @@ fn skip_many<R: Source>(reader: &mut R, size: usize) -> bool
     true
 }
 
-// Reads over so many octets, and answers whether they were there. Few need no piece that is cleared first.
+// Reads over so many octets, and answers whether they were there. Those at hand are not looked at.
 pub(crate) fn skip<R: Source>(reader: &mut R, size: usize) -> bool
     ensures { Passes (R.left reader.old) (R.ending reader.old) size result (R.left reader.new) (R.ending reader.new) }
 {
-    if size > FEW {
-        return skip_many(reader, size);
-    }
-    let mut few = [0u8; FEW];
-    match fill(reader, &mut few[..size]) {
-        Filled::Whole => true,
-        Filled::Short(_) => false,
+    match reader.ending() {
+        InputEnd::Open if reader.take_at_hand(size) => true,
+        _ => skip_by_reads(reader, size),
     }
 }
 

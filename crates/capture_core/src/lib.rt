@@ -11,6 +11,7 @@
 //! microseconds, `a1b23c4d` where they are nanoseconds.
 #![tactic(auto)]
 
+mod at_hand;
 mod block;
 mod body;
 mod capture_fault;

@@ -1,7 +1,9 @@
 //! The packets of a capture, one at a time.
-ghost use Rattle.std.specs.Prelude.{◌≡◌, ◌<◌, ◌≤◌, ◌+◌, [], IfOk, IfSome};
+ghost use Rattle.std.specs.Prelude.{◌≡◌, ◌<◌, ◌≤◌, ◌+◌, [], None, IfOk, IfSome};
+ghost use Rattle.list_core.specs.declared.device.InputEnd.{InputEnd};
 ghost use Rattle.tally_core.specs.Tally.{no_tally};
 
+use crate::at_hand::{take_frame, take_record};
 use crate::block::read_block;
 use crate::body::Said;
 use crate::capture_fault::{CaptureCause, CaptureFault, ended_in};
@@ -11,7 +13,7 @@ use crate::interface::Interface;
 use crate::packet_block::Section;
 use crate::packet_record::read_packet_record;
 use crate::start::{Start, read_start};
-use list_core::{Event, EventKind, ReadError, Source};
+use list_core::{Event, EventKind, InputEnd, ReadError, Source};
 use std::alloc::{AllocError, Allocator};
 use tally_core::KindTally;
 
@@ -62,7 +64,7 @@ pub struct PacketReader<R, A: Allocator> {
 impl<R: Source, A: Allocator + Copy> PacketReader<R, A> {
     ghost use Rattle.list_core.specs.ReadItems.{told_as};
     ghost use Rattle.capture_core.specs.PacketReader.{AnswersPacket, at_start, packet_number, packet_number_told, packet_state, things_left};
-    ghost use Rattle.capture_core.specs.computed.Steps.{IsReading, Settles, Steps};
+    ghost use Rattle.capture_core.specs.computed.Steps.{GivesEvent, IsAsBefore, IsReading, Settles, Steps};
 
     /// A reader of the capture that the source gives. It takes no memory yet.
     pub fn new(alloc: A, reader: R) -> Self
@@ -195,8 +197,93 @@ impl<R: Source, A: Allocator + Copy> PacketReader<R, A> {
         }
     }
 
+    /// Reads a block where it is at hand and a frame, and answers its event. Where it does not, nothing was read.
+    #[inline(always)]
+    fn take_block(
+        &mut self,
+        alloc: A,
+        spare: &mut Option<Event<A>>,
+        order: OctetOrder,
+    ) -> Option<Event<A>>
+        requires order { self.old.progress ≡ Progress.Blocks order }
+        requires room { 0 < self.old.most }
+        requires open { R.ending self.old.reader ≡ InputEnd.Open }
+        ensures taken { IfSome result (λ e. GivesEvent (packet_state R.left R.ending self.old) e (packet_number self.old) (packet_state R.left R.ending self.new) (packet_number self.new)) }
+        ensures kept { result ≡ None → IsAsBefore (packet_state R.left R.ending self.old) (packet_number self.old) (packet_state R.left R.ending self.new) (packet_number self.new) }
+    {
+        let section = Section {
+            order,
+            interfaces: self.interfaces.as_slice(),
+            moment: self.moment,
+        };
+        let Some(event) = take_frame(&mut self.reader, alloc, spare, section) else {
+            return None;
+        };
+        self.moment = event.moment;
+        self.answered += 1;
+        self.most -= 1;
+        Some(event)
+    }
+
+    /// Reads a record where it is at hand and a frame, and answers its event. Where it does not, nothing was read.
+    #[inline(always)]
+    fn take_record(
+        &mut self,
+        alloc: A,
+        spare: &mut Option<Event<A>>,
+        form: CaptureForm,
+    ) -> Option<Event<A>>
+        requires records { self.old.progress ≡ Progress.Records form }
+        requires room { 0 < self.old.most }
+        requires open { R.ending self.old.reader ≡ InputEnd.Open }
+        ensures taken { IfSome result (λ e. GivesEvent (packet_state R.left R.ending self.old) e (packet_number self.old) (packet_state R.left R.ending self.new) (packet_number self.new)) }
+        ensures kept { result ≡ None → IsAsBefore (packet_state R.left R.ending self.old) (packet_number self.old) (packet_state R.left R.ending self.new) (packet_number self.new) }
+    {
+        let Some(event) = take_record(&mut self.reader, alloc, spare, form) else {
+            return None;
+        };
+        self.answered += 1;
+        self.most -= 1;
+        Some(event)
+    }
+
+    /// Reads a record or a block where it is at hand and a frame, as nearly always, and answers its event. Where it does not, nothing
+    /// was read.
+    #[inline(always)]
+    fn take_at_hand(&mut self, alloc: A, spare: &mut Option<Event<A>>) -> Option<Event<A>>
+        ensures taken { IfSome result (λ e. GivesEvent (packet_state R.left R.ending self.old) e (packet_number self.old) (packet_state R.left R.ending self.new) (packet_number self.new)) }
+        ensures kept { result ≡ None → IsAsBefore (packet_state R.left R.ending self.old) (packet_number self.old) (packet_state R.left R.ending self.new) (packet_number self.new) }
+    {
+        match self.reader.ending() {
+            InputEnd::Open if self.most > 0 => match self.progress {
+                Progress::Blocks(order) => self.take_block(alloc, spare, order),
+                Progress::Records(form) => self.take_record(alloc, spare, form),
+                _ => None,
+            },
+            _ => None,
+        }
+    }
+
     /// The next packet's event, or None at the capture's end.
+    #[inline(always)]
     pub fn next(
+        &mut self,
+        alloc: A,
+        spare: &mut Option<Event<A>>,
+    ) -> Result<Option<Event<A>>, ReadError<CaptureFault>>
+        ensures packet { AnswersPacket (packet_state R.left R.ending self.old) (told_as (packet_number self.new) result) (packet_state R.left R.ending self.new) }
+        ensures number { packet_number self.new ≡ packet_number_told (told_as (packet_number self.new) result) (packet_number self.old) }
+        ensures fewer { IfOk result (λ o. IfSome o (λ _. things_left (packet_state R.left R.ending self.new) < things_left (packet_state R.left R.ending self.old))) }
+    {
+        match self.take_at_hand(alloc, spare) {
+            Some(event) => Ok(Some(event)),
+            None => self.next_by_steps(alloc, spare),
+        }
+    }
+
+    /// The same, part by part.
+    #[inline(never)]
+    fn next_by_steps(
         &mut self,
         alloc: A,
         spare: &mut Option<Event<A>>,

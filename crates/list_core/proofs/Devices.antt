@@ -1,8 +1,8 @@
 -- What several reads and several writes leave together.
-use Rattle.std.proofs.Common.{◌≡◌, ℕ, ◌+◌, List, [], ◌++◌, Option, Some, None, take, drop, ap, sym, ◌∙◌, refl, arith}
-use Rattle.std.proofs.lemmas.List.{append_assoc, append-nil, take-append-drop, drop-take, take-take}
+use Rattle.std.proofs.Common.{◌≡◌, ℕ, ◌+◌, ◌≤◌, List, [], ◌++◌, Option, Some, None, length, take, drop, ap, sym, ◌∙◌, refl, arith}
+use Rattle.std.proofs.lemmas.List.{append_assoc, append-nil, take_at, take-append-drop, take-append-le, drop-take, take-take}
 use Rattle.std.specs.Io.KnownBytes.{Appends, Consumes}
-use Rattle.list_core.specs.Device.{AppendsPrefix, GivesOctets, KeepsOrForgets}
+use Rattle.list_core.specs.Device.{AppendsPrefix, ConsumesSome, GivesOctets, IsFront, KeepsOrForgets}
 
 -- one write after another
 pub Appends-append : (a b c : Option (List ℕ)) (xs ys : List ℕ) → Appends a b xs → Appends b c ys → Appends a c (xs ++ ys)
@@ -63,3 +63,10 @@ Consumes-none (Some os) = refl
 pub Appends-none : (a : Option (List ℕ)) → Appends a a []
 Appends-none None = tt
 Appends-none (Some os) = sym (append-nil os)
+
+-- octets that were taken of those at hand are their front
+pub taken_at_hand : (a b : Option (List ℕ)) (xs : List ℕ) (n : ℕ) → IsFront a xs → n ≤ length xs → ConsumesSome a b n → Consumes a b (take n xs)
+taken_at_hand None b xs n f h s = tt
+taken_at_hand (Some os) None xs n f h s = absurd s.2
+taken_at_hand (Some os) (Some ps) xs n f h (given, size, took) =
+    took ∙ ap (λ l. l ++ ps) (sym (take_at given ps n size) ∙ ap (take n) (sym took ∙ f.1) ∙ take-append-le n xs f.0 h)

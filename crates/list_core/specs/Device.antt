@@ -1,5 +1,6 @@
 -- What a call of a source or a sink leaves.
-use Rattle.std.specs.Prelude.{◌≡◌, ℕ, List, [], ◌++◌, ◌⊎◌, Option, Some, None, Result, Ok, Err, ⊤}
+use Rattle.std.specs.Prelude.{◌≡◌, ℕ, List, [], ◌++◌, ◌⊎◌, length, Option, Some, None, Result, Ok, Err, ⊤}
+use Rattle.std.specs.Io.KnownBytes.{Consumes}
 use Rattle.std.proofs.Common.{zero, suc}
 use Rattle.list_core.specs.declared.device.InputEnd.{InputEnd}
 use Rattle.list_core.specs.declared.device.InputEnd.TheVariants.{Open, End, Failed}
@@ -23,6 +24,15 @@ abbrev pub GivesOctets : Option (List ℕ) → Option (List ℕ) → List ℕ �
 GivesOctets None new bs = ⊤
 GivesOctets (Some xs) None bs = (ys : List ℕ) × (xs ≡ bs ++ ys)
 GivesOctets (Some xs) (Some ys) bs = xs ≡ bs ++ ys
+
+-- these octets come first of those that are left, where those are told
+abbrev pub IsFront : Option (List ℕ) → List ℕ → Type 0
+IsFront None bs = ⊤
+IsFront (Some xs) bs = (ys : List ℕ) × (xs ≡ bs ++ ys)
+
+-- so many octets were given, from the front of what was left
+abbrev pub ConsumesSome : Option (List ℕ) → Option (List ℕ) → ℕ → Type 0
+ConsumesSome old new count = (bs : List ℕ) × (length bs ≡ count) × Consumes old new bs
 
 -- a prefix of these octets was appended, or what is held is no longer told
 abbrev pub AppendsPrefix : Option (List ℕ) → Option (List ℕ) → List ℕ → Type 0

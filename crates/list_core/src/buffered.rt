@@ -40,11 +40,14 @@ impl<R: Read, A: Allocator> Source for FromBuffered<R, A> {
     }
 
     #[inline(always)]
-    fn read_at_hand(&mut self, into: &mut [u8]) -> bool {
-        let count = into.len();
-        match self.source.reader.buffer().get(..count) {
-            Some(octets) => into.copy_from_slice(octets),
-            None => return false,
+    fn at_hand(&self) -> &[u8] {
+        self.source.reader.buffer()
+    }
+
+    #[inline(always)]
+    fn take_at_hand(&mut self, count: usize) -> bool {
+        if self.source.reader.buffer().len() < count {
+            return false;
         }
         self.source.reader.consume(count);
         true

@@ -3,7 +3,7 @@ ghost use Rattle.std.specs.Prelude.{◌≡◌, ℕ, ◌<◌, ◌≤◌, List, Op
 ghost use Rattle.std.specs.Io.KnownBytes.{Consumes, Appends};
 ghost use Rattle.std.specs.Result.{is_err};
 ghost use Rattle.list_core.specs.declared.device.InputEnd.{InputEnd};
-ghost use Rattle.list_core.specs.Device.{ending_after, KeepsOrForgets};
+ghost use Rattle.list_core.specs.Device.{ending_after, ConsumesSome, IsFront, KeepsOrForgets};
 
 use thiserror::Error;
 
@@ -45,11 +45,17 @@ pub trait Source {
     fn ending(&self) -> InputEnd
         ensures { result ≡ ending self.now };
 
-    /// Reads the next octets to all of `into` where it has as many at hand, so that none is waited for, and answers whether it
-    /// did. Where it did not, nothing was taken.
-    fn read_at_hand(&mut self, into: &mut [u8]) -> bool
+    /// The next octets, as far as the source has them at hand, so that none is waited for.
+    fn at_hand(&self) -> &[u8]
+        ensures { IsFront (left self.now) result.now }
+    {
+        &[]
+    }
+
+    /// Takes so many of the next octets where it has them at hand, and answers whether it did. Where it did not, nothing was taken.
+    fn take_at_hand(&mut self, count: usize) -> bool
         requires open { ending self.old ≡ InputEnd.Open }
-        ensures given { result ≡ true → Consumes (left self.old) (left self.new) into.new }
+        ensures taken { result ≡ true → ConsumesSome (left self.old) (left self.new) count }
         ensures kept { result ≡ false → left self.new ≡ left self.old }
         ensures ending { ending self.new ≡ ending self.old }
     {

@@ -40,6 +40,14 @@ abbrev pub Steps : {A : Type 0} → PacketState → Step A → ℕ → PacketSta
 Steps old Passed m new n = PassesOver old new × (things_left new < things_left old) × (n ≡ m)
 Steps old (Answered a) m new n = AnswersPacket old (told_as n a) new × (n ≡ packet_number_told (told_as n a) m) × FewerAfter a old new
 
+-- a step gave this event
+abbrev pub GivesEvent : {A : Type 0} → PacketState → Event A → ℕ → PacketState → ℕ → Type 0
+GivesEvent old e m new n = Steps old (Answered (Ok (Some e))) m new n
+
+-- nothing was read
+abbrev pub IsAsBefore : PacketState → ℕ → PacketState → ℕ → Type 0
+IsAsBefore old m new n = (new ≡ old) × (n ≡ m)
+
 -- records or blocks are being read
 abbrev pub IsReading : Progress → Type 0
 IsReading progress.Nothing = ⊥

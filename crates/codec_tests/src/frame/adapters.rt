@@ -91,7 +91,13 @@ fn count_read<S: Source>(source: &mut S, into: &mut [u8]) -> usize {
 /// Whether an open source has as many octets at hand, which it gives then.
 fn is_at_hand<S: Source>(source: &mut S, into: &mut [u8]) -> bool {
     match source.ending() {
-        InputEnd::Open => source.read_at_hand(into),
+        InputEnd::Open => match source.at_hand().get(..into.len()) {
+            Some(octets) => {
+                into.copy_from_slice(octets);
+                source.take_at_hand(into.len())
+            }
+            None => false,
+        },
         _ => false,
     }
 }
@@ -117,5 +123,5 @@ fn has_at_hand_what_was_read(alloc: Global) -> bool {
 fn what_was_read_ahead_is_at_hand(rt: HostRuntime) {
     assert!(rt; has_at_hand_what_was_read(rt.alloc()));
     let mut source = FromRead::new(b"0123".as_slice());
-    assert!(rt; !is_at_hand(&mut source, &mut [0; 2]));
+    assert!(rt; source.at_hand().is_empty() && !source.take_at_hand(0));
 }

@@ -2,7 +2,7 @@ use Rattle.std.proofs.Common.{take, ◌++◌, ◌∙◌, arith}
 use Rattle.std.proofs.lemmas.List.{length-append, length-drop, length-take}
 use Rattle.list_core.proofs.Devices.{Consumes-append, Gives-append}
 use Rattle.list_core.proofs.Readers.{OnlyOpen-append}
-use Rattle.capture_core.proofs.filling.skip_many.Goals as goal
+use Rattle.capture_core.proofs.filling.skip_by_reads.Goals as goal
 
 pub pieces-preserved : goal.pieces-preserved
 pieces-preserved g c =

@@ -1,7 +1,7 @@
 use Rattle.std.proofs.Common.{◌≡◌, ◌≤◌}
 use Rattle.capture_core.specs.PacketReader.{packet_number, packet_state, things_left}
 use Rattle.capture_core.specs.computed.Steps.{PassesOver}
-use Rattle.capture_core.proofs.packet_reader.PacketReader.next.Given as goal
+use Rattle.capture_core.proofs.packet_reader.PacketReader.next_by_steps.Given as goal
 
 abbrev pub invariant-steps : goal.invariant-steps
 invariant-steps g l = record {

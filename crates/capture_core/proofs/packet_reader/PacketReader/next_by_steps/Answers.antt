@@ -1,6 +1,6 @@
 use Rattle.std.proofs.Common.{refl, ◌∙◌, arith}
 use Rattle.capture_core.proofs.StepsTogether.{passes_answers, passes_none, passes_passes}
-use Rattle.capture_core.proofs.packet_reader.PacketReader.next.Goals as goal
+use Rattle.capture_core.proofs.packet_reader.PacketReader.next_by_steps.Goals as goal
 
 pub steps-init : goal.steps-init
 steps-init g c = record { passed = passes_none _; number = refl; few = omega arith }
