@@ -4,3 +4,4 @@ pub mod ReplayStep
 pub mod ReplayAgrees
 pub mod WatchStep
 pub mod PublishStep
+pub mod LinesTold

@@ -313,15 +313,11 @@ flagged_told A b (r ∷ rs) =
     ]
 
 -- an entry more, of the position behind those that have one
-pub switched_more : {A : Type 0} (positions : List ℕ) (i d : ℕ) (before entries more : List (Entry A)) → i < length positions → more ≡ entries ++ says.Switched (get_or positions i d) ∷ []
-    → entries ≡ before ++ switched_at (take i positions) → more ≡ before ++ switched_at (take (i + 1) positions)
-switched_more {A} positions i d before entries more lt is so =
-    let at = get_or positions i d in
-    let seen = take i positions in
+pub switched_more : {A : Type 0} (positions : List ℕ) (i d : ℕ) → i < length positions
+    → switched_at {A = A} (take i positions) ++ says.Switched (get_or positions i d) ∷ [] ≡ switched_at (take (i + 1) positions)
+switched_more {A} positions i d lt =
     let entry : ℕ → Entry A = λ p. says.Switched p in
-    let told = ap (switched_at {A = A}) (take_more positions i d lt) ∙ map-append entry seen (at ∷ []) in
-    is ∙ (ap (λ (es : List (Entry A)). es ++ says.Switched at ∷ []) so
-    ∙ (append_assoc before (switched_at seen) (says.Switched at ∷ []) ∙ ap (λ (es : List (Entry A)). before ++ es) (sym told)))
+    sym (ap (switched_at {A = A}) (take_more positions i d lt) ∙ map-append entry (take i positions) (get_or positions i d ∷ []))
 
 pub untold_positions : (A : Type 0) (ps : List ℕ) → switched_at {A = A} ps ≡ [] → ps ≡ []
 untold_positions A [] e = refl

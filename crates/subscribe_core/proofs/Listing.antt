@@ -26,11 +26,6 @@ listed_more A now n at held old next before entries more is e on so =
     ∙ (ap (λ (ps : List ℕ). entries ++ says.Expired at ∷ map (expired_at A) ps) (sym on)
     ∙ (ap (λ (o : Option ℕ). entries ++ map (expired_at A) (onward now held n o)) (sym is) ∙ so)))
 
-pub longer : (A : Type 0) (at : ℕ) (entries more : List (Entry A)) → more ≡ entries ++ says.Expired at ∷ [] → length entries ≤ length more
-longer A at entries more e =
-    let long = ap length e ∙ length-append entries (says.Expired at ∷ []) in
-    omega (arith, long)
-
 -- where none is due, there is no next one
 pub listed_none : (A : Type 0) (now n at : ℕ) (held : List (Option LiveState)) (next : Option ℕ) (before entries : List (Entry A)) → next ≡ Some at → length before ≤ length entries
     → due_positions now 0 held ≡ [] → AreListed A now n held entries next before → ⊥

@@ -9,3 +9,4 @@ pub mod Indexed
 pub mod Received
 pub mod WatchAnswers
 pub mod PrivateCalls
+pub mod Sinks

@@ -1,48 +1,45 @@
 //! The entries of a good frame, and what it gives its block to hold.
 
-ghost use Rattle.std.specs.Prelude.{◌≡◌, ◌≢◌, ◌<◌, ◌≤◌, ◌++◌, [], Some, None, IfOk, IsOk, OnOk, length, vec_capacity};
-ghost use Rattle.subscribe_core.specs.Changes.{changes};
+ghost use Rattle.std.specs.Prelude.{◌≡◌, ◌∷◌, [], None, false, IfOk, IsOk, OnOk};
+ghost use Rattle.subscribe_core.specs.Changes.{changes, is_change};
 ghost use Rattle.subscribe_core.specs.FrameEntry.{entry_of};
 ghost use Rattle.subscribe_core.specs.computed.Indexed.{good_entries, good_renewal, switches};
 ghost use Rattle.subscribe_core.specs.computed.Received.{received_frame};
 ghost use Rattle.subscribe_core.specs.computed.Steps.{held_after_frame};
 
-use crate::entry::Entry;
+use crate::entry::PlainEntry;
+use crate::entry_sink::EntrySink;
 use crate::matching::{Received, facts_in};
 use crate::registers::{Facts, LiveState, Register, Verdict, held_at, judge};
-use mms_data::ValueList;
 use std::alloc::{AllocError, Allocator};
 
-// The entry that says the verdict on a frame of the block at a position. The members are copied for an action alone.
-fn verdict_entry<A: Allocator + Copy>(
+// Hands over the entry that says the verdict on a frame of the block at a position.
+#[inline(always)]
+fn put_verdict<A: Allocator + Copy, E: EntrySink<A>>(
     alloc: A,
     block: usize,
     frame: &Received<'_>,
     verdict: Verdict,
-) -> Result<Entry<A>, AllocError>
-    ensures entry { IfOk result (λ e. e ≡ entry_of block (received_frame frame.now) verdict) }
-    ensures quiet { verdict ≢ Verdict.Act → IsOk result }
+    entries: &mut E,
+) -> Result<(), AllocError>
+    ensures entry { OnOk result (E.gets entries.old (entry_of block (received_frame frame.now) verdict ∷ []) entries.new) }
+    ensures grown { E.grows entries.old entries.new }
+    ensures quiet { is_change (entry_of {A = A} block (received_frame frame.now) verdict) ≡ false → E.has_room entries.old → IsOk result }
 {
     let (state, sequence) = (frame.goose.st_num, frame.goose.sq_num);
     match verdict {
-        Verdict::Act => Ok(Entry::Act {
-            block,
-            state,
-            sequence,
-            t: frame.goose.t,
-            members: ValueList::from(frame.goose.members.to_values(alloc)?),
-        }),
-        Verdict::Refreshed => Ok(Entry::Refreshed {
+        Verdict::Act => entries.put_act(alloc, block, &frame.goose),
+        Verdict::Refreshed => entries.put_entry(PlainEntry::Refreshed {
             block,
             state,
             sequence,
         }),
-        Verdict::Repeated => Ok(Entry::Repeated {
+        Verdict::Repeated => entries.put_entry(PlainEntry::Repeated {
             block,
             state,
             sequence,
         }),
-        Verdict::Older => Ok(Entry::Older {
+        Verdict::Older => entries.put_entry(PlainEntry::Older {
             block,
             state,
             sequence,
@@ -71,28 +68,29 @@ pub(crate) fn is_switching(old: &Register, frame: &Received<'_>) -> bool
     frame.goose.simulation && !old.takes_simulated
 }
 
-// Appends the entries of a good frame of the block at a position, whose register is given, and says what it gives the block
+// Hands over the entries of a good frame of the block at a position, whose register is given, and says what it gives the block
 // to hold.
-pub(crate) fn push_good<A: Allocator + Copy>(
+#[inline(always)]
+pub(crate) fn put_good<A: Allocator + Copy, E: EntrySink<A>>(
     alloc: A,
     block: usize,
     now: u64,
     old: &Register,
     frame: &Received<'_>,
-    entries: &mut Vec<Entry<A>, A>,
+    entries: &mut E,
 ) -> Result<Option<LiveState>, AllocError>
-    ensures entries { OnOk result (entries.new.items ≡ entries.old.items ++ good_entries block now old.now (received_frame frame.now)) }
+    ensures entries { OnOk result (E.gets entries.old (good_entries block now old.now (received_frame frame.now)) entries.new) }
     ensures held { IfOk result (λ held. held ≡ good_renewal now old.now (received_frame frame.now)) }
-    ensures capacity { vec_capacity entries.old ≤ vec_capacity entries.new }
-    ensures room { changes (good_entries {A = A} block now old.now (received_frame frame.now)) ≡ [] → length entries.old.items < vec_capacity entries.old → IsOk result }
+    ensures grown { E.grows entries.old entries.new }
+    ensures room { changes (good_entries {A = A} block now old.now (received_frame frame.now)) ≡ [] → E.has_room entries.old → IsOk result }
 {
     let mut held = held_at(&old.held, now);
     if is_switching(old, frame) {
-        entries.push(Entry::Switched { block })?;
+        entries.put_entry(PlainEntry::Switched { block })?;
         held = None;
     }
     let facts = facts_in(frame);
     let verdict = judge(&held, &facts);
-    entries.push(verdict_entry(alloc, block, frame, verdict)?)?;
+    put_verdict(alloc, block, frame, verdict, entries)?;
     Ok(renewal(verdict, now, &facts))
 }

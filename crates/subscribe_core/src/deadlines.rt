@@ -1,12 +1,13 @@
 //! The deadlines of the holding blocks: a number for each block, and above them the least of ever more of them.
 
-ghost use Rattle.std.specs.Prelude.{◌≡◌, ℕ, ◌<◌, ◌≤◌, ◌+◌, ◌-◌, ◌*◌, ◌^◌, ◌++◌, [], List, Option, Some, None, false, IfOk, OnOk, IsOk, IsTrue, IfSome, IfNone, length, min, slice_set, slice_index, slice_index_or, vec_capacity};
+ghost use Rattle.std.specs.Prelude.{◌≡◌, ℕ, ◌<◌, ◌≤◌, ◌+◌, ◌-◌, ◌*◌, ◌^◌, [], List, Option, Some, None, false, IfOk, OnOk, IsOk, IsTrue, IfSome, IfNone, length, min, slice_set, slice_index, slice_index_or};
 ghost use Rattle.subscribe_core.specs.declared.registers.LiveState.{LiveState as SpecLiveState};
 ghost use Rattle.subscribe_core.specs.declared.registers.Register.{Register as SpecRegister};
 ghost use Rattle.subscribe_core.specs.computed.Steps.{expired_entries, is_dead};
 ghost use Rattle.subscribe_core.specs.computed.Deadlines.{AreLesser, AreLesserBut, Covers, IsBeside, IsNextDue, IsTree, KeepsDeadlinesOf, half, helds};
 
-use crate::entry::Entry;
+use crate::entry::PlainEntry;
+use crate::entry_sink::EntrySink;
 use std::alloc::{AllocError, Allocator};
 
 // The last moment of a block that holds nothing: no moment comes behind it.
@@ -115,20 +116,21 @@ impl<A: Allocator + Copy> Deadlines<A> {
         }
     }
 
-    // Appends an entry for each block whose deadline is at most the moment, in their order.
-    pub(crate) fn list_due(
+    // Hands over an entry for each block whose deadline is at most the moment, in their order.
+    #[inline(always)]
+    pub(crate) fn list_due<E: EntrySink<A>>(
         &self,
         now: u64,
-        entries: &mut Vec<Entry<A>, A>,
+        entries: &mut E,
     ) -> Result<(), AllocError>
         requires tree { IsTree self.now.nodes.items }
-        ensures entries { (registers : List SpecRegister) → KeepsDeadlinesOf self.now (helds registers) → OnOk result (entries.new.items ≡ entries.old.items ++ expired_entries now 0 registers) }
+        ensures entries { (registers : List SpecRegister) → KeepsDeadlinesOf self.now (helds registers) → OnOk result (E.gets entries.old (expired_entries now 0 registers) entries.new) }
         ensures quiet { (registers : List SpecRegister) → KeepsDeadlinesOf self.now (helds registers) → expired_entries {A = A} now 0 registers ≡ [] → IsOk result }
-        ensures capacity { vec_capacity entries.old ≤ vec_capacity entries.new }
+        ensures grown { E.grows entries.old entries.new }
     {
         let mut next = self.first_due(now);
         while let Some(at) = next {
-            entries.push(Entry::Expired { block: at })?;
+            entries.put_entry(PlainEntry::Expired { block: at })?;
             next = self.next_due(at, now);
         }
         Ok(())

@@ -2,6 +2,7 @@
 
 ghost use Rattle.std.specs.Prelude.{◌≡◌};
 ghost use Rattle.subscribe_core.specs.Changes.{is_change};
+ghost use Rattle.subscribe_core.specs.computed.Sinks.{whole_entry};
 
 use ber_core::Fault;
 use mms_data::{UtcTime, ValueList};
@@ -96,6 +97,83 @@ impl<A: Allocator> Entry<A> {
             | Entry::Repeated { .. }
             | Entry::NotSubscribed
             | Entry::Sampled => false,
+        }
+    }
+}
+
+/// An entry that has no members: all but actions.
+#[derive(Clone, Copy)]
+pub enum PlainEntry {
+    Expired {
+        block: usize,
+    },
+    Switched {
+        block: usize,
+    },
+    Refreshed {
+        block: usize,
+        state: u32,
+        sequence: u32,
+    },
+    Repeated {
+        block: usize,
+        state: u32,
+        sequence: u32,
+    },
+    Older {
+        block: usize,
+        state: u32,
+        sequence: u32,
+    },
+    Refused {
+        block: usize,
+        reason: Reason,
+    },
+    NotSubscribed,
+    Sampled,
+    Faulty(Fault),
+}
+
+impl PlainEntry {
+    /// It as one of all entries.
+    #[inline(always)]
+    pub fn whole<A: Allocator>(self) -> Entry<A>
+        ensures { result ≡ whole_entry self }
+    {
+        match self {
+            PlainEntry::Expired { block } => Entry::Expired { block },
+            PlainEntry::Switched { block } => Entry::Switched { block },
+            PlainEntry::Refreshed {
+                block,
+                state,
+                sequence,
+            } => Entry::Refreshed {
+                block,
+                state,
+                sequence,
+            },
+            PlainEntry::Repeated {
+                block,
+                state,
+                sequence,
+            } => Entry::Repeated {
+                block,
+                state,
+                sequence,
+            },
+            PlainEntry::Older {
+                block,
+                state,
+                sequence,
+            } => Entry::Older {
+                block,
+                state,
+                sequence,
+            },
+            PlainEntry::Refused { block, reason } => Entry::Refused { block, reason },
+            PlainEntry::NotSubscribed => Entry::NotSubscribed,
+            PlainEntry::Sampled => Entry::Sampled,
+            PlainEntry::Faulty(fault) => Entry::Faulty(fault),
         }
     }
 }

@@ -1,11 +1,12 @@
 //! The positions of the blocks that take simulated frames, so that the mode set off looks at no other block.
 
-ghost use Rattle.std.specs.Prelude.{◌≡◌, ◌≤◌, ◌+◌, ◌++◌, [], List, Some, true, false, IfOk, OnOk, OnErr, IsOk, IfSome, IfNone, length, slice_get, slice_set, vec_capacity};
+ghost use Rattle.std.specs.Prelude.{◌≡◌, ◌+◌, [], List, Some, true, false, IfOk, OnOk, OnErr, IsOk, IfSome, IfNone, length, slice_get, slice_set};
 ghost use Rattle.subscribe_core.specs.declared.registers.Register.{Register as SpecRegister};
 ghost use Rattle.subscribe_core.specs.computed.Flagged.{AreFlagged, flag_at, switched_at};
 ghost use Rattle.subscribe_core.specs.computed.Indexed.{flagged_entries};
 
-use crate::entry::Entry;
+use crate::entry::PlainEntry;
+use crate::entry_sink::EntrySink;
 use std::alloc::{AllocError, Allocator};
 
 /// The positions of the blocks that take simulated frames, each once, in no order: they are put in order where they are listed.
@@ -14,7 +15,7 @@ pub struct Flagged<A: Allocator> {
     positions: Vec<usize, A>,
 }
 
-impl<A: Allocator> Flagged<A> {
+impl<A: Allocator + Copy> Flagged<A> {
     // Those where no block takes simulated frames.
     pub(crate) fn new(alloc: A) -> Flagged<A>
         ensures { result.positions.items ≡ [] }
@@ -34,15 +35,15 @@ impl<A: Allocator> Flagged<A> {
         Ok(())
     }
 
-    // Appends an entry for each block that takes simulated frames, in their order.
-    pub(crate) fn list(&mut self, entries: &mut Vec<Entry<A>, A>) -> Result<(), AllocError>
-        ensures entries { (registers : List SpecRegister) → AreFlagged self.old.positions.items registers → OnOk result (entries.new.items ≡ entries.old.items ++ flagged_entries 0 registers) }
+    // Hands over an entry for each block that takes simulated frames, in their order.
+    pub(crate) fn list<E: EntrySink<A>>(&mut self, entries: &mut E) -> Result<(), AllocError>
+        ensures entries { (registers : List SpecRegister) → AreFlagged self.old.positions.items registers → OnOk result (E.gets entries.old (flagged_entries 0 registers) entries.new) }
         ensures quiet { (registers : List SpecRegister) → AreFlagged self.old.positions.items registers → flagged_entries {A = A} 0 registers ≡ [] → IsOk result }
         ensures flagged { (registers : List SpecRegister) → AreFlagged self.old.positions.items registers → AreFlagged self.new.positions.items registers }
-        ensures capacity { vec_capacity entries.old ≤ vec_capacity entries.new }
+        ensures grown { E.grows entries.old entries.new }
     {
         self.positions.sort_unstable();
-        push_switched(&self.positions, entries)
+        put_switched(&self.positions, entries)
     }
 
     // Takes out a position, if there is one.
@@ -58,17 +59,17 @@ impl<A: Allocator> Flagged<A> {
     }
 }
 
-// Appends an entry for each of the blocks at these positions, which go over to simulated frames or back.
-fn push_switched<A: Allocator>(
+// Hands over an entry for each of the blocks at these positions, which go over to simulated frames or back.
+fn put_switched<A: Allocator + Copy, E: EntrySink<A>>(
     positions: &[usize],
-    entries: &mut Vec<Entry<A>, A>,
+    entries: &mut E,
 ) -> Result<(), AllocError>
-    ensures entries { OnOk result (entries.new.items ≡ entries.old.items ++ switched_at positions.now) }
+    ensures entries { OnOk result (E.gets entries.old (switched_at positions.now) entries.new) }
     ensures quiet { positions.now ≡ [] → IsOk result }
-    ensures capacity { vec_capacity entries.old ≤ vec_capacity entries.new }
+    ensures grown { E.grows entries.old entries.new }
 {
     for at in positions {
-        entries.push(Entry::Switched { block: *at })?;
+        entries.put_entry(PlainEntry::Switched { block: *at })?;
     }
     Ok(())
 }

@@ -19,9 +19,10 @@ ghost use Rattle.subscribe_core.specs.computed.Steps.{expired_entries, said_of, 
 ghost use Rattle.frame_core.specs.computed.FrameReading.{frame_at};
 ghost use Rattle.subscribe_core.specs.declared.registers.Register.{Register as SpecRegister};
 
-use crate::answering::{is_switching, push_good};
+use crate::answering::{is_switching, put_good};
 use crate::deadlines::Deadlines;
-use crate::entry::Entry;
+use crate::entry::PlainEntry;
+use crate::entry_sink::EntrySink;
 use crate::fault::SubscribeFault;
 use crate::flagged::Flagged;
 use crate::guesses::Guesses;
@@ -173,10 +174,10 @@ impl<A: Allocator + Copy> Keeper<A> {
     }
 
     // Appends an entry for each block that expires at the moment, in their order.
-    fn list_expired(&self, now: u64, entries: &mut Vec<Entry<A>, A>) -> Result<(), AllocError>
-        ensures entries { OnOk result (entries.new.items ≡ entries.old.items ++ expired_entries now 0 self.now.state.registers) }
+    fn list_expired<E: EntrySink<A>>(&self, now: u64, entries: &mut E) -> Result<(), AllocError>
+        ensures entries { OnOk result (E.gets entries.old (expired_entries now 0 self.now.state.registers) entries.new) }
         ensures quiet { expired_entries {A = A} now 0 self.now.state.registers ≡ [] → IsOk result }
-        ensures capacity { vec_capacity entries.old ≤ vec_capacity entries.new }
+        ensures grown { E.grows entries.old entries.new }
     {
         self.deadlines.list_due(now, entries)
     }
@@ -246,15 +247,14 @@ impl<A: Allocator + Copy> Keeper<A> {
     }
 
     // Takes a frame of GOOSE: its entries, and what its block then holds.
-    fn take_goose(
+    fn take_goose<E: EntrySink<A>>(
         &mut self,
         now: u64,
         frame: &Received<'_>,
-        entries: &mut Vec<Entry<A>, A>,
+        entries: &mut E,
     ) -> Result<(), AllocError>
-        ensures entries { OnOk result (entries.new.items ≡ entries.old.items
-            ++ (switched_entries self.old.state.mode (OfGoose (received_frame frame.now)) 0 self.old.state.blocks self.old.state.registers
-            ++ said_of now self.old.state.mode self.old.state.blocks self.old.state.registers (OfGoose (received_frame frame.now)))) }
+        ensures entries { OnOk result (E.gets entries.old (switched_entries self.old.state.mode (OfGoose (received_frame frame.now)) 0 self.old.state.blocks self.old.state.registers
+            ++ said_of now self.old.state.mode self.old.state.blocks self.old.state.registers (OfGoose (received_frame frame.now))) entries.new) }
         ensures registers { OnOk result (registers_after_clock now self.new.state.registers ≡ registers_by now self.old.state.mode (OfGoose (received_frame frame.now)) self.old.state.blocks self.old.state.registers) }
         ensures blocks { OnOk result (self.new.state.blocks ≡ self.old.state.blocks) }
         ensures mode { OnOk result (self.new.state.mode ≡ self.old.state.mode) }
@@ -263,12 +263,12 @@ impl<A: Allocator + Copy> Keeper<A> {
             ≤ self.old.reaches + due_count now (helds self.old.state.registers) + 2) }
         ensures err { OnErr result (self.new.state ≡ self.old.state) }
         ensures err_looks { OnErr result (self.new.looks ≡ self.old.looks) }
-        ensures capacity { vec_capacity entries.old ≤ vec_capacity entries.new }
+        ensures grown { E.grows entries.old entries.new }
         ensures room { changes (switched_entries {A = A} self.old.state.mode (OfGoose (received_frame frame.now)) 0 self.old.state.blocks self.old.state.registers
-            ++ said_of now self.old.state.mode self.old.state.blocks self.old.state.registers (OfGoose (received_frame frame.now))) ≡ [] → length entries.old.items < vec_capacity entries.old → IsOk result }
+            ++ said_of now self.old.state.mode self.old.state.blocks self.old.state.registers (OfGoose (received_frame frame.now))) ≡ [] → E.has_room entries.old → IsOk result }
     {
         let Some(at) = self.position_of(frame) else {
-            entries.push(Entry::NotSubscribed)?;
+            entries.put_entry(PlainEntry::NotSubscribed)?;
             return Ok(());
         };
         let alloc = self.alloc();
@@ -277,10 +277,10 @@ impl<A: Allocator + Copy> Keeper<A> {
         let (block, old) = self.look(reach);
         let is_other_kind = is_other_kind(frame, mode, old.takes_simulated);
         if let Some(reason) = first_reason(block, frame, is_other_kind) {
-            entries.push(Entry::Refused { block: at, reason })?;
+            entries.put_entry(PlainEntry::Refused { block: at, reason })?;
             return Ok(());
         }
-        match push_good(alloc, at, now, &old, frame, entries)? {
+        match put_good(alloc, at, now, &old, frame, entries)? {
             None => Ok(()),
             Some(held) => {
                 if is_switching(&old, frame) {
@@ -294,16 +294,15 @@ impl<A: Allocator + Copy> Keeper<A> {
     }
 
     // Takes the octets of a frame, which may be faulty, and is seen through a memory of frames.
-    fn take_octets(
+    fn take_octets<E: EntrySink<A>>(
         &mut self,
         memory: &mut FrameMemory<A, Nothing>,
         now: u64,
         octets: &[u8],
-        entries: &mut Vec<Entry<A>, A>,
+        entries: &mut E,
     ) -> Result<(), AllocError>
-        ensures entries { OnOk result (entries.new.items ≡ entries.old.items
-            ++ (switched_entries self.old.state.mode (content_by (frame_at octets.now)) 0 self.old.state.blocks self.old.state.registers
-            ++ said_of now self.old.state.mode self.old.state.blocks self.old.state.registers (content_by (frame_at octets.now)))) }
+        ensures entries { OnOk result (E.gets entries.old (switched_entries self.old.state.mode (content_by (frame_at octets.now)) 0 self.old.state.blocks self.old.state.registers
+            ++ said_of now self.old.state.mode self.old.state.blocks self.old.state.registers (content_by (frame_at octets.now))) entries.new) }
         ensures registers { OnOk result (registers_after_clock now self.new.state.registers ≡ registers_by now self.old.state.mode (content_by (frame_at octets.now)) self.old.state.blocks self.old.state.registers) }
         ensures blocks { OnOk result (self.new.state.blocks ≡ self.old.state.blocks) }
         ensures mode { OnOk result (self.new.state.mode ≡ mode_by (content_by (frame_at octets.now)) self.old.state.mode) }
@@ -312,19 +311,19 @@ impl<A: Allocator + Copy> Keeper<A> {
             ≤ self.old.reaches + due_count now (helds self.old.state.registers) + 2) }
         ensures err { OnErr result (self.new.state ≡ self.old.state) }
         ensures err_looks { OnErr result (self.new.looks ≡ self.old.looks) }
-        ensures capacity { vec_capacity entries.old ≤ vec_capacity entries.new }
+        ensures grown { E.grows entries.old entries.new }
         ensures room { changes (switched_entries {A = A} self.old.state.mode (content_by (frame_at octets.now)) 0 self.old.state.blocks self.old.state.registers
-            ++ said_of now self.old.state.mode self.old.state.blocks self.old.state.registers (content_by (frame_at octets.now))) ≡ [] → length entries.old.items < vec_capacity entries.old → IsOk result }
+            ++ said_of now self.old.state.mode self.old.state.blocks self.old.state.registers (content_by (frame_at octets.now))) ≡ [] → E.has_room entries.old → IsOk result }
     {
         self.know_sizes();
         match memory.view(octets) {
             Err(fault) => {
-                entries.push(Entry::Faulty(fault))?;
+                entries.put_entry(PlainEntry::Faulty(fault))?;
                 Ok(())
             }
             Ok(view) => match view.apdu {
                 ApduView::Sampled(_) => {
-                    entries.push(Entry::Sampled)?;
+                    entries.put_entry(PlainEntry::Sampled)?;
                     Ok(())
                 }
                 ApduView::Goose(goose) => {
@@ -339,12 +338,12 @@ impl<A: Allocator + Copy> Keeper<A> {
     }
 
     // Appends an entry for each block that takes simulated frames.
-    fn list_switched(&mut self, entries: &mut Vec<Entry<A>, A>) -> Result<(), AllocError>
-        ensures entries { OnOk result (entries.new.items ≡ entries.old.items ++ flagged_entries 0 self.old.state.registers) }
+    fn list_switched<E: EntrySink<A>>(&mut self, entries: &mut E) -> Result<(), AllocError>
+        ensures entries { OnOk result (E.gets entries.old (flagged_entries 0 self.old.state.registers) entries.new) }
         ensures quiet { flagged_entries {A = A} 0 self.old.state.registers ≡ [] → IsOk result }
         ensures sizes { length self.old.state.registers ≡ length self.old.state.blocks }
         ensures unchanged { self.new ≡ self.old }
-        ensures capacity { vec_capacity entries.old ≤ vec_capacity entries.new }
+        ensures grown { E.grows entries.old entries.new }
     {
         self.flagged.list(entries)
     }
@@ -380,8 +379,8 @@ impl<A: Allocator + Copy> Keeper<A> {
     }
 
     // Takes a mode event: blocks that take simulated frames are switched where the mode is set off.
-    fn take_mode(&mut self, on: bool, entries: &mut Vec<Entry<A>, A>) -> Result<(), AllocError>
-        ensures entries { OnOk result (entries.new.items ≡ entries.old.items ++ switched_entries self.old.state.mode (OfMode on) 0 self.old.state.blocks self.old.state.registers) }
+    fn take_mode<E: EntrySink<A>>(&mut self, on: bool, entries: &mut E) -> Result<(), AllocError>
+        ensures entries { OnOk result (E.gets entries.old (switched_entries self.old.state.mode (OfMode on) 0 self.old.state.blocks self.old.state.registers) entries.new) }
         ensures registers { OnOk result ((now : ℕ) → registers_after_clock now self.new.state.registers ≡ registers_by now self.old.state.mode (OfMode on) self.old.state.blocks self.old.state.registers) }
         ensures blocks { OnOk result (self.new.state.blocks ≡ self.old.state.blocks) }
         ensures mode { OnOk result (self.new.state.mode ≡ on) }
@@ -391,7 +390,7 @@ impl<A: Allocator + Copy> Keeper<A> {
         ensures quiet { switched_entries self.old.state.mode (OfMode on) 0 self.old.state.blocks self.old.state.registers ≡ [] → IsOk result }
         ensures err { OnErr result (self.new.state ≡ self.old.state) }
         ensures err_looks { OnErr result (self.new.looks ≡ self.old.looks) }
-        ensures capacity { vec_capacity entries.old ≤ vec_capacity entries.new }
+        ensures grown { E.grows entries.old entries.new }
     {
         if on {
             self.set_mode(true);
@@ -404,15 +403,14 @@ impl<A: Allocator + Copy> Keeper<A> {
     }
 
     // Takes what happened: the entries after the expiries, and what the blocks then hold.
-    fn take_kind(
+    fn take_kind<E: EntrySink<A>>(
         &mut self,
         memory: &mut FrameMemory<A, Nothing>,
         now: u64,
         kind: &EventKind<A>,
-        entries: &mut Vec<Entry<A>, A>,
+        entries: &mut E,
     ) -> Result<(), AllocError>
-        ensures entries { OnOk result (entries.new.items ≡ entries.old.items
-            ++ (switched_entries self.old.state.mode (content_of kind.now) 0 self.old.state.blocks self.old.state.registers ++ said_of now self.old.state.mode self.old.state.blocks self.old.state.registers (content_of kind.now))) }
+        ensures entries { OnOk result (E.gets entries.old (switched_entries self.old.state.mode (content_of kind.now) 0 self.old.state.blocks self.old.state.registers ++ said_of now self.old.state.mode self.old.state.blocks self.old.state.registers (content_of kind.now)) entries.new) }
         ensures registers { OnOk result (registers_after_clock now self.new.state.registers ≡ registers_by now self.old.state.mode (content_of kind.now) self.old.state.blocks self.old.state.registers) }
         ensures blocks { OnOk result (self.new.state.blocks ≡ self.old.state.blocks) }
         ensures mode { OnOk result (self.new.state.mode ≡ mode_by (content_of kind.now) self.old.state.mode) }
@@ -422,9 +420,9 @@ impl<A: Allocator + Copy> Keeper<A> {
         ensures quiet { IsFrame kind.now ⊎ (switched_entries self.old.state.mode (content_of kind.now) 0 self.old.state.blocks self.old.state.registers ≡ [] → IsOk result) }
         ensures err { OnErr result (self.new.state ≡ self.old.state) }
         ensures err_looks { OnErr result (self.new.looks ≡ self.old.looks) }
-        ensures capacity { vec_capacity entries.old ≤ vec_capacity entries.new }
+        ensures grown { E.grows entries.old entries.new }
         ensures room { changes (switched_entries self.old.state.mode (content_of kind.now) 0 self.old.state.blocks self.old.state.registers
-            ++ said_of now self.old.state.mode self.old.state.blocks self.old.state.registers (content_of kind.now)) ≡ [] → length entries.old.items < vec_capacity entries.old → IsOk result }
+            ++ said_of now self.old.state.mode self.old.state.blocks self.old.state.registers (content_of kind.now)) ≡ [] → E.has_room entries.old → IsOk result }
     {
         self.know_sizes();
         match kind {
@@ -435,21 +433,21 @@ impl<A: Allocator + Copy> Keeper<A> {
     }
 
     // Takes one event, by what is kept, and appends its entries.
-    fn take_counted(
+    fn take_counted<E: EntrySink<A>>(
         &mut self,
         memory: &mut FrameMemory<A, Nothing>,
         event: &Event<A>,
-        entries: &mut Vec<Entry<A>, A>,
+        entries: &mut E,
     ) -> Result<(), AllocError>
-        ensures entries { OnOk result (entries.new.items ≡ entries.old.items ++ step_entries self.old.state (reading_of event.now)) }
+        ensures entries { OnOk result (E.gets entries.old (step_entries self.old.state (reading_of event.now)) entries.new) }
         ensures state { OnOk result (self.new.state ≡ step_state self.old.state (reading_of event.now)) }
         ensures err { OnErr result (self.new.state ≡ self.old.state) }
         ensures err_looks { OnErr result (self.new.looks ≡ self.old.looks) }
         ensures quiet { IsFrame event.now.kind ⊎ (step_entries self.old.state (reading_of event.now) ≡ [] → IsOk result) }
         ensures count { OnOk result (self.new.reaches ≤ self.old.reaches + (expired_count (step_entries self.old.state (reading_of event.now)) + other_reaches event.now.kind (step_entries self.old.state (reading_of event.now)))) }
         ensures apart { AreApart self.old.state.blocks }
-        ensures capacity { vec_capacity entries.old ≤ vec_capacity entries.new }
-        ensures room { changes (step_entries self.old.state (reading_of event.now)) ≡ [] → length entries.old.items < vec_capacity entries.old → IsOk result }
+        ensures grown { E.grows entries.old entries.new }
+        ensures room { changes (step_entries self.old.state (reading_of event.now)) ≡ [] → E.has_room entries.old → IsOk result }
     {
         let now = self.moment.max(event.moment);
         self.list_expired(now, entries)?;
@@ -462,25 +460,24 @@ impl<A: Allocator + Copy> Keeper<A> {
     // Takes one event, by what is kept, and has a list be its entries. What the memory of frames holds changes no answer.
     //
     // What `looks` then answers is by how much the count of all reaches grew.
-    pub(crate) fn step(
+    pub(crate) fn step<E: EntrySink<A>>(
         &mut self,
         memory: &mut FrameMemory<A, Nothing>,
         event: &Event<A>,
-        entries: &mut Vec<Entry<A>, A>,
+        entries: &mut E,
     ) -> Result<(), AllocError>
-        ensures entries { OnOk result (entries.new.items ≡ step_entries self.old.state (reading_of event.now)) }
+        ensures entries { OnOk result (E.gets entries.old (step_entries self.old.state (reading_of event.now)) entries.new) }
         ensures state { OnOk result (self.new.state ≡ step_state self.old.state (reading_of event.now)) }
         ensures err { OnErr result (self.new.state ≡ self.old.state) }
         ensures err_looks { OnErr result (self.new.looks ≡ self.old.looks) }
         ensures quiet { IsFrame event.now.kind ⊎ (step_entries self.old.state (reading_of event.now) ≡ [] → IsOk result) }
         ensures counted { OnOk result (self.new.looks ≡ self.new.reaches - self.old.reaches) }
-        ensures looks { OnOk result (self.new.looks ≤ expired_count entries.new.items + other_reaches event.now.kind entries.new.items) }
+        ensures looks { OnOk result (self.new.looks ≤ expired_count (step_entries self.old.state (reading_of event.now)) + other_reaches event.now.kind (step_entries self.old.state (reading_of event.now))) }
         ensures apart { AreApart self.old.state.blocks }
-        ensures capacity { vec_capacity entries.old ≤ vec_capacity entries.new }
-        ensures room { changes (step_entries self.old.state (reading_of event.now)) ≡ [] → 0 < vec_capacity entries.old → IsOk result }
+        ensures grown { E.grows entries.old entries.new }
+        ensures room { changes (step_entries self.old.state (reading_of event.now)) ≡ [] → E.has_room entries.old → IsOk result }
     {
         let before = self.rows.reaches();
-        entries.clear();
         self.take_counted(memory, event, entries)?;
         self.looks = self.rows.reaches().saturating_sub(before); // the count of all reaches never falls
         Ok(())

@@ -4,6 +4,7 @@
 mod answering;
 mod deadlines;
 mod entry;
+mod entry_sink;
 mod fault;
 mod flagged;
 mod guesses;
@@ -17,7 +18,8 @@ mod subscriber;
 mod twice;
 mod watch;
 
-pub use crate::entry::{Entry, Reason};
+pub use crate::entry::{Entry, PlainEntry, Reason};
+pub use crate::entry_sink::EntrySink;
 pub use crate::fault::SubscribeFault;
 pub use crate::subscriber::Subscriber;
 pub use crate::watch::{Seen, Watch, WatchFault};

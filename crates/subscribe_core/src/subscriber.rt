@@ -3,6 +3,7 @@
 ghost use Rattle.std.specs.Prelude.{◌≡◌, ◌<◌, ◌≤◌, ◌+◌, ◌∷◌, ◌++◌, [], List, IfOk, OnOk, OnErr, IfErr, IsOk, length, vec_capacity};
 ghost use Rattle.subscribe_core.specs.computed.Content.{reading_of};
 ghost use Rattle.subscribe_core.specs.Entries.{AreEntriesAt};
+ghost use Rattle.subscribe_core.specs.declared.entry.Entry.{Entry as SpecEntry};
 ghost use Rattle.subscribe_core.specs.Changes.{changes};
 ghost use Rattle.subscribe_core.specs.Looks.{expired_count, other_reaches};
 ghost use Rattle.subscribe_core.specs.Faults.{IsFaultOf};
@@ -12,6 +13,7 @@ ghost use Rattle.subscribe_core.specs.computed.Steps.{step_entries, step_state};
 ghost use Rattle.list_core.specs.declared.event.Event.{Event as SpecEvent};
 
 use crate::entry::Entry;
+use crate::entry_sink::EntrySink;
 use crate::fault::SubscribeFault;
 use crate::keeping::Keeper;
 use block_core::Block;
@@ -218,6 +220,51 @@ impl<A: Allocator + Copy> Subscriber<A> {
         // A list with room for an entry keeps it, and needs no memory where no entry of the event is a change.
         ensures capacity { vec_capacity entries.old ≤ vec_capacity entries.new }
         ensures quiet_changes { changes (step_entries self.old.state (reading_of event.now)) ≡ [] → 0 < vec_capacity entries.old → IsOk result }
+    {
+        entries.clear();
+        self.take_to(memory, event, entries)?;
+        Ok(())
+    }
+
+    /// Takes one event as `take_into_over` does, and hands its entries to a sink, one after another.
+    ///
+    /// # Errors
+    ///
+    /// As those of `take_into`, or where the sink wants memory for an entry and is refused it.
+    #[inline(always)]
+    pub fn take_to<E: EntrySink<A>>(
+        &mut self,
+        memory: &mut FrameMemory<A, Nothing>,
+        event: &Event<A>,
+        entries: &mut E,
+    ) -> Result<(), AllocError>
+        // For every list of events after which the subscriber stands, the sink is handed the entries that the list with this event
+        // has at it, and the subscriber then stands after that list.
+        ensures entries { (events : List (SpecEvent A)) → StandsAfter events self.old.state →
+            OnOk result ((es : List (SpecEntry A)) × AreEntriesAt self.old.state.blocks (events ++ event.now ∷ []) (length events) es × E.gets entries.old es entries.new) }
+        ensures stands { (events : List (SpecEvent A)) → StandsAfter events self.old.state →
+            OnOk result (StandsAfter (events ++ event.now ∷ []) self.new.state) }
+
+        // Where memory is refused the subscriber is as it was; where the event has no entry no memory is asked for.
+        ensures unchanged { OnErr result (self.new ≡ self.old) }
+        ensures quiet { (events : List (SpecEvent A)) → StandsAfter events self.old.state →
+            AreEntriesAt self.old.state.blocks (events ++ event.now ∷ []) (length events) [] → IsOk result }
+
+        // How often a block or its register was reached, by the entries.
+        ensures looks { OnOk result (let es = step_entries self.old.state (reading_of event.now) in self.new.looks ≤ expired_count es + other_reaches event.now.kind es) }
+
+        // The blocks stay, and no two have one name.
+        ensures blocks { self.new.state.blocks ≡ self.old.state.blocks }
+        ensures apart { AreApart self.old.state.blocks }
+
+        // For callers: the same by what is kept.
+        ensures step { OnOk result (E.gets entries.old (step_entries self.old.state (reading_of event.now)) entries.new) }
+        ensures state { OnOk result (self.new.state ≡ step_state self.old.state (reading_of event.now)) }
+        ensures quiet_step { step_entries self.old.state (reading_of event.now) ≡ [] → IsOk result }
+
+        // The sink was handed entries, and has room for one that is no change where it had.
+        ensures grown { E.grows entries.old entries.new }
+        ensures quiet_changes { changes (step_entries self.old.state (reading_of event.now)) ≡ [] → E.has_room entries.old → IsOk result }
     {
         self.keeper.step(memory, event, entries)
     }

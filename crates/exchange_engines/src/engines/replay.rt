@@ -1,5 +1,5 @@
 //! `replay`: the entries of a subscriber, one line an entry.
-ghost use Rattle.std.specs.Prelude.{◌≡◌, ◌<◌, ◌≤◌, ◌++◌, [], ℕ, List, IfOk, IsOk, OnOk, true, false, option_map, codes, vec_capacity};
+ghost use Rattle.std.specs.Prelude.{◌≡◌, ◌<◌, ◌≤◌, ◌++◌, [], ℕ, List, IfOk, IsOk, OnErr, OnOk, length, take, true, false, option_map, codes, vec_capacity};
 ghost use Rattle.std.specs.Fmt.{decimal};
 ghost use Rattle.list_core.specs.declared.device.InputEnd.{InputEnd};
 ghost use Rattle.list_core.specs.Device.{GivesOctets};
@@ -14,42 +14,22 @@ ghost use Rattle.exchange_engines.specs.computed.ReplayAgrees.{replay_agrees};
 ghost use Rattle.exchange_engines.specs.computed.ReplayStep.{IsSaid, ReplayStands, kept_after, replay_allows};
 ghost use Rattle.block_core.specs.declared.block.Block.{Block as SpecBlock};
 ghost use Rattle.subscribe_core.specs.State.{fresh_state};
+ghost use Rattle.subscribe_core.specs.computed.Content.{reading_of};
+ghost use Rattle.subscribe_core.specs.computed.Steps.{step_entries, step_state};
+ghost use Rattle.exchange_engines.specs.EntryText.{entry_lines};
 
 use crate::texts::entry::put_entry_lines;
+use crate::texts::entry_lines::{EntryLines, mark_heard};
 use crate::texts::entry_object::{EntryHeading, put_entry_objects, put_twice_object};
 use engine_core::{Ending, EventEngine, Stopped, Style, refuse, run_events};
 use list_core::{Event, EventKind, EventLines, InputFault, ItemReader, ReadItems, Sink, Source};
 use object_core::{Form, LastObject};
 use repeat_core::{FrameMemory, Nothing};
 use std::alloc::{AllocError, Allocator};
+use std::mem::swap;
 use subscribe_core::{Block, Entry, SubscribeFault, Subscriber};
 use text_core::LastLine;
 use text_core::pieces::put_decimal;
-
-// The position of the block that an entry speaks of.
-fn block_of<A: Allocator>(entry: &Entry<A>) -> Option<usize> {
-    match entry {
-        Entry::Expired { block }
-        | Entry::Switched { block }
-        | Entry::Act { block, .. }
-        | Entry::Refreshed { block, .. }
-        | Entry::Repeated { block, .. }
-        | Entry::Older { block, .. }
-        | Entry::Refused { block, .. } => Some(*block),
-        Entry::NotSubscribed | Entry::Sampled | Entry::Faulty(_) => None,
-    }
-}
-
-// Sets the flags of the blocks that entries speak of.
-fn mark_heard<A: Allocator>(heard: &mut [bool], entries: &[Entry<A>]) {
-    for entry in entries {
-        if let Some(block) = block_of(entry) {
-            if let Some(flag) = heard.get_mut(block) {
-                *flag = true;
-            }
-        }
-    }
-}
 
 /// How a replay takes frames, and what it tells of them.
 #[derive(Clone, Copy)]
@@ -77,16 +57,15 @@ fn keep_told<A: Allocator>(changes_alone: bool, entries: &mut Vec<Entry<A>, A>)
     }
 }
 
-/// What `replay` writes: what a subscriber answers, in a manner. The memory of the entries of an event is used again for those of
-/// the next, and a frame that repeats is not read again.
+/// What `replay` writes: what a subscriber answers, in a manner. The lines of entries are written as it tells them; those of which
+/// objects are written are listed first, in memory that is used again. A frame that repeats is not read again.
 #[derive(Drop)]
 struct Replaying<'a, A: Allocator> {
     manner: ReplayManner,
     subscriber: Subscriber<A>,
     memory: FrameMemory<A, Nothing>,
     entries: Vec<Entry<A>, A>,
-    /// Whether a block, by its position, has had an entry, for as many blocks as there are flags.
-    heard: &'a mut [bool],
+    lines: EntryLines<'a, A>,
 }
 
 // Appends what is written of the entries of an event in a form.
@@ -116,6 +95,34 @@ fn put_said<A: Allocator>(
     }
 }
 
+impl<A: Allocator + Copy> Replaying<'_, A> {
+    // Appends the lines of what is told of the entries of an event.
+    #[inline(always)]
+    fn put_lines(
+        &mut self,
+        line: &mut Vec<u8, A>,
+        number: u64,
+        event: &Event<A>,
+    ) -> Result<(), AllocError>
+        ensures told { OnOk result (line.new.items ≡ line.old.items ++ entry_lines number (told_of self.old.manner.changes_alone (step_entries self.old.subscriber.state (reading_of event.now)))) }
+        ensures kept { OnErr result (take (length line.old.items) line.new.items ≡ line.old.items) }
+        ensures quiet { told_of self.old.manner.changes_alone (step_entries self.old.subscriber.state (reading_of event.now)) ≡ [] → IsOk result }
+        ensures state { OnOk result (self.new.subscriber.state ≡ step_state self.old.subscriber.state (reading_of event.now)) }
+        ensures blocks { self.new.subscriber.state.blocks ≡ self.old.subscriber.state.blocks }
+        ensures manner { self.new.manner ≡ self.old.manner }
+        ensures entries { self.new.entries ≡ self.old.entries }
+    {
+        self.lines.number = number;
+        self.lines.changes_alone = self.manner.changes_alone;
+        swap(line, &mut self.lines.line);
+        let took = self
+            .subscriber
+            .take_to(&mut self.memory, event, &mut self.lines);
+        swap(line, &mut self.lines.line);
+        took
+    }
+}
+
 impl<A: Allocator + Copy> EventEngine<A> for Replaying<'_, A> {
     ghost allows = { λ s. replay_allows s.manner s.subscriber.state.blocks };
 
@@ -131,9 +138,13 @@ impl<A: Allocator + Copy> EventEngine<A> for Replaying<'_, A> {
         number: u64,
         event: &Event<A>,
     ) -> Result<bool, AllocError> {
+        if let Form::Text = form {
+            self.put_lines(line, number, event)?;
+            return Ok(false);
+        }
         self.subscriber
             .take_into_over(&mut self.memory, event, &mut self.entries)?;
-        mark_heard(self.heard, self.entries.as_slice());
+        mark_heard(&mut self.lines, self.entries.as_slice());
         keep_told(self.manner.changes_alone, &mut self.entries);
         let blocks = self.subscriber.blocks();
         let entries = self.entries.as_slice();
@@ -193,7 +204,12 @@ fn begun<'a, A: Allocator + Copy>(
         subscriber,
         memory: FrameMemory::new(alloc),
         entries,
-        heard,
+        lines: EntryLines {
+            line: Vec::new(alloc),
+            number: 0,
+            changes_alone: manner.changes_alone,
+            heard,
+        },
     })
 }
 

@@ -116,7 +116,8 @@ fn put_alone_line<A: Allocator>(
 }
 
 // Appends the line of an entry.
-fn put_entry_line<A: Allocator>(
+#[inline(always)]
+pub(crate) fn put_entry_line<A: Allocator>(
     out: &mut Vec<u8, A>,
     number: u64,
     entry: &Entry<A>,

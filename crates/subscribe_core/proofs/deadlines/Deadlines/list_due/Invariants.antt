@@ -1,5 +1,6 @@
-use Rattle.std.proofs.Common.{◌<◌, ◌≤◌, List, Option, length}
-use Rattle.std.specs.Prelude.{IfSome, vec_capacity}
+use Rattle.std.proofs.Common.{◌<◌, [], List, Option}
+use Rattle.std.specs.Prelude.{IfSome}
+use Rattle.subscribe_core.specs.declared.entry.Entry.{Entry}
 use Rattle.subscribe_core.specs.declared.registers.LiveState.{LiveState}
 use Rattle.subscribe_core.specs.computed.Deadlines.{KeepsDeadlinesOf, half}
 use Rattle.subscribe_core.proofs.Listing.{AreListed}
@@ -11,9 +12,9 @@ abbrev pub invariant-loop-next : goal.invariant-loop-next
 invariant-loop-next g l =
     record {
       within : IfSome l.next (λ at. at < half l.self.nodes.items);
-      room : vec_capacity l.initial.entries ≤ vec_capacity l.entries;
-      more : length l.initial.entries.items ≤ length l.entries.items;
-      listed : (held : List (Option LiveState)) → KeepsDeadlinesOf l.self held → AreListed _ l.now (half l.self.nodes.items) held l.entries.items l.next l.initial.entries.items;
+      grown : g.E.EntrySink.grows l.initial.entries l.entries;
+      listed : (es : List (Entry g.row.A.Denot)) × g.E.EntrySink.gets l.initial.entries es l.entries
+          × ((held : List (Option LiveState)) → KeepsDeadlinesOf l.self held → AreListed _ l.now (half l.self.nodes.items) held es l.next []);
     }
 
 abbrev pub decreases-loop-next : goal.decreases-loop-next

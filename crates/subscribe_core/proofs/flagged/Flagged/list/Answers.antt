@@ -1,4 +1,4 @@
-use Rattle.std.proofs.Common.{◌≡◌, ◌++◌, ap, subst, ◌∙◌, List}
+use Rattle.std.proofs.Common.{ap, subst, ◌∙◌, List}
 use Rattle.std.specs.Prelude.{OnOk}
 use Rattle.subscribe_core.specs.declared.entry.Entry.{Entry}
 use Rattle.subscribe_core.specs.computed.Flagged.{switched_at}
@@ -9,12 +9,12 @@ pub returns-clause-entries : goal.returns-clause-entries
 returns-clause-entries g c = λ registers all.
     let same = flagged_in_order _ registers c.sort_unstable.ensures.sorted (flagged_permuted _ _ registers c.sort_unstable.ensures.permutation all) in
     let told = ap (switched_at {A = g.row.A.Denot}) (c.deref.ensures.value ∙ same) ∙ flagged_told g.row.A.Denot 0 registers in
-    subst (λ (es : List (Entry _)). OnOk c.push_switched.result (c.push_switched.new.entries.items ≡ c.args.entries.now.items ++ es)) told c.push_switched.ensures.entries
+    subst (λ (es : List (Entry g.row.A.Denot)). OnOk c.put_switched.result (g.E.EntrySink.gets c.args.entries.now es c.put_switched.new.entries)) told c.put_switched.ensures.entries
 
 pub returns-clause-quiet : goal.returns-clause-quiet
 returns-clause-quiet g c = λ registers all none.
     let same = flagged_in_order _ registers c.sort_unstable.ensures.sorted (flagged_permuted _ _ registers c.sort_unstable.ensures.permutation all) in
-    c.push_switched.ensures.quiet (c.deref.ensures.value ∙ (same ∙ untold_positions g.row.A.Denot _ (flagged_told g.row.A.Denot 0 registers ∙ none)))
+    c.put_switched.ensures.quiet (c.deref.ensures.value ∙ (same ∙ untold_positions g.row.A.Denot _ (flagged_told g.row.A.Denot 0 registers ∙ none)))
 
 pub returns-clause-flagged : goal.returns-clause-flagged
 returns-clause-flagged g c = λ registers all. flagged_permuted _ _ registers c.sort_unstable.ensures.permutation all

@@ -1,4 +1,4 @@
-use Rattle.std.proofs.Common.{◌≡◌, ◌≤◌, ◌++◌, [], ℕ, List, append-nil, length, max, inl, inr, ap, ◌∙◌, subst, arith}
+use Rattle.std.proofs.Common.{◌≡◌, ◌≤◌, ◌++◌, [], ℕ, List, max, inl, inr, ap, ◌∙◌, subst, arith}
 use Rattle.std.proofs.lemmas.Bool.{false≢true}
 use Rattle.subscribe_core.specs.declared.entry.Entry.{Entry}
 use Rattle.subscribe_core.specs.computed.Deadlines.{due_count, helds}
@@ -71,8 +71,20 @@ returns-in_err-take_kind-clause-room g c = λ none fits.
     let now_is = c.max-now.ensures ∙ ap (λ (t : StateAndReaches _). max t.state.moment c.args.event.now.moment) c.self.view_is in
     let rest : ℕ → List (Entry g.row.A.Denot) = λ n. switched_entries s.mode k 0 s.blocks s.registers ++ said_of n s.mode s.blocks s.registers k in
     let over : expired_entries {A = g.row.A.Denot} last 0 s.registers ≡ [] = none_expired last 0 s.registers (changes_front (expired_entries last 0 s.registers) (rest last) none) in
-    let old = c.args.entries.now.items in
-    let same = c.in_ok-list_expired.ensures.entries ∙ ap (λ (es : List (Entry g.row.A.Denot)). old ++ es) (ap (λ n. expired_entries n 0 s.registers) now_is ∙ over) ∙ append-nil old in
-    let as_long = ap length same in
+    let none_got = subst (λ (es : List (Entry g.row.A.Denot)). g.E.EntrySink.gets c.args.entries.now es c.list_expired.new.entries) (ap (λ n. expired_entries n 0 s.registers) now_is ∙ over) c.in_ok-list_expired.ensures.entries in
     absurd (false≢true (c.in_err-take_kind.ensures.room (ap (λ n. changes (rest n)) now_is ∙ changes_back (expired_entries last 0 s.registers) (rest last) none)
-    (omega (arith, as_long, c.in_ok-list_expired.ensures.capacity, fits))))
+    (g.met.E.EntrySink.room_stays _ _ none_got c.list_expired.ensures.grown fits)))
+
+pub returns-in_err-take_kind-clause-grown : goal.returns-in_err-take_kind-clause-grown
+returns-in_err-take_kind-clause-grown g c = g.met.E.EntrySink.grows_more _ _ _ c.list_expired.ensures.grown c.take_kind.ensures.grown
+
+pub returns-clause-grown : goal.returns-clause-grown
+returns-clause-grown g c = g.met.E.EntrySink.grows_more _ _ _ c.list_expired.ensures.grown c.take_kind.ensures.grown
+
+pub returns-clause-entries : goal.returns-clause-entries
+returns-clause-entries g c =
+    let s = c.args.self.now.state in
+    let k = content_of c.args.event.now.kind in
+    let now_is = c.max-now.ensures ∙ ap (λ (t : StateAndReaches _). max t.state.moment c.args.event.now.moment) c.self.view_is in
+    subst (λ (n : ℕ). g.E.EntrySink.gets c.args.entries.now (expired_entries n 0 s.registers ++ (switched_entries s.mode k 0 s.blocks s.registers ++ said_of n s.mode s.blocks s.registers k)) c.take_kind.new.entries) now_is
+    (g.met.E.EntrySink.gets_more _ _ _ _ _ c.in_ok-list_expired.ensures.entries c.in_ok-take_kind.ensures.entries)

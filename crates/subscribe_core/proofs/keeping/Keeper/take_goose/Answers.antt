@@ -16,8 +16,7 @@ use Rattle.subscribe_core.proofs.keeping.Keeper.take_goose.Goals as goal
 pub returns-in_default-clause-entries : goal.returns-in_default-clause-entries
 returns-in_default-clause-entries g c =
     let s = c.args.self.now.state in
-    c.in_ok-push.ensures.items
-    ∙ ap (λ (es : List (Entry _)). c.args.entries.now.items ++ es) (answer_none c.args.now s.mode s.blocks s.registers (received_frame c.args.frame.now) (sym c.in_default.ensures.found))
+    subst (λ (es : List (Entry g.row.A.Denot)). g.E.EntrySink.gets c.args.entries.now es c.put_entry.new.self) (answer_none c.args.now s.mode s.blocks s.registers (received_frame c.args.frame.now) (sym c.in_default.ensures.found)) c.in_ok-put_entry.ensures.got
 
 pub returns-in_default-clause-registers : goal.returns-in_default-clause-registers
 returns-in_default-clause-registers g c =
@@ -34,9 +33,8 @@ returns-in-Some-first_reason-clause-entries g c =
     let block = sym (ap₂ (λ (t : State _) (n : ℕ). slice_get t.blocks n) (c.reach-reach.ensures.state ∙ ap (λ (t : StateAndReaches _). t.state) c.position_of.ensures.unchanged) c.reach-reach.ensures.at) ∙ c.look.ensures.block in
     let register_is = sym (ap₂ (λ (t : State _) (n : ℕ). slice_get t.registers n) (c.reach-reach.ensures.state ∙ ap (λ (t : StateAndReaches _). t.state) c.position_of.ensures.unchanged) c.reach-reach.ensures.at) ∙ c.look.ensures.register in
     let told = reason_told x f c.is_other_kind-is_other_kind.result s.mode c.is_simulating-mode.result r.takes_simulated (Some c.in-Some-first_reason.reason) c.is_other_kind-is_other_kind.ensures (c.is_simulating-mode.ensures ∙ ap (λ (t : StateAndReaches _). t.state.mode) c.position_of.ensures.unchanged) c.in-Some-first_reason.ensures in
-    c.in_ok-push-2.ensures.items
-    ∙ ap (λ (es : List (Entry _)). c.args.entries.now.items ++ es)
-    (answer_refused c.args.now s.mode s.blocks s.registers f c.in-Some.at x r c.in-Some-first_reason.reason c.position_of.ensures.apart (sym c.in-Some.ensures.found) block register_is told)
+    subst (λ (es : List (Entry g.row.A.Denot)). g.E.EntrySink.gets c.args.entries.now es c.put_entry-in-Some-first_reason.new.self)
+    (answer_refused c.args.now s.mode s.blocks s.registers f c.in-Some.at x r c.in-Some-first_reason.reason c.position_of.ensures.apart (sym c.in-Some.ensures.found) block register_is told) c.in_ok-put_entry-2.ensures.got
 
 pub returns-in-Some-first_reason-clause-registers : goal.returns-in-Some-first_reason-clause-registers
 returns-in-Some-first_reason-clause-registers g c =
@@ -59,9 +57,8 @@ returns-in-None-clause-entries g c =
     let block = sym (ap₂ (λ (t : State _) (n : ℕ). slice_get t.blocks n) (c.reach-reach.ensures.state ∙ ap (λ (t : StateAndReaches _). t.state) c.position_of.ensures.unchanged) c.reach-reach.ensures.at) ∙ c.look.ensures.block in
     let register_is = sym (ap₂ (λ (t : State _) (n : ℕ). slice_get t.registers n) (c.reach-reach.ensures.state ∙ ap (λ (t : StateAndReaches _). t.state) c.position_of.ensures.unchanged) c.reach-reach.ensures.at) ∙ c.look.ensures.register in
     let told = reason_told x f c.is_other_kind-is_other_kind.result s.mode c.is_simulating-mode.result r.takes_simulated None c.is_other_kind-is_other_kind.ensures (c.is_simulating-mode.ensures ∙ ap (λ (t : StateAndReaches _). t.state.mode) c.position_of.ensures.unchanged) c.in_default-first_reason.ensures in
-    c.in_ok-push_good.ensures.entries
-    ∙ ap (λ (es : List (Entry _)). c.args.entries.now.items ++ es)
-    (answer_good c.args.now s.mode s.blocks s.registers f c.in-Some.at x r c.position_of.ensures.apart (sym c.in-Some.ensures.found) block register_is told)
+    subst (λ (es : List (Entry g.row.A.Denot)). g.E.EntrySink.gets c.args.entries.now es c.put_good.new.entries)
+    (answer_good c.args.now s.mode s.blocks s.registers f c.in-Some.at x r c.position_of.ensures.apart (sym c.in-Some.ensures.found) block register_is told) c.in_ok-put_good.ensures.entries
 
 pub returns-in-None-clause-registers : goal.returns-in-None-clause-registers
 returns-in-None-clause-registers g c =
@@ -72,7 +69,7 @@ returns-in-None-clause-registers g c =
     let block = sym (ap₂ (λ (t : State _) (n : ℕ). slice_get t.blocks n) (c.reach-reach.ensures.state ∙ ap (λ (t : StateAndReaches _). t.state) c.position_of.ensures.unchanged) c.reach-reach.ensures.at) ∙ c.look.ensures.block in
     let register_is = sym (ap₂ (λ (t : State _) (n : ℕ). slice_get t.registers n) (c.reach-reach.ensures.state ∙ ap (λ (t : StateAndReaches _). t.state) c.position_of.ensures.unchanged) c.reach-reach.ensures.at) ∙ c.look.ensures.register in
     let told = reason_told x f c.is_other_kind-is_other_kind.result s.mode c.is_simulating-mode.result r.takes_simulated None c.is_other_kind-is_other_kind.ensures (c.is_simulating-mode.ensures ∙ ap (λ (t : StateAndReaches _). t.state.mode) c.position_of.ensures.unchanged) c.in_default-first_reason.ensures in
-    let renewal = sym c.in_ok-push_good.ensures.held ∙ c.in-None.is in
+    let renewal = sym c.in_ok-put_good.ensures.held ∙ c.in-None.is in
     ap (λ (t : State _). registers_after_clock c.args.now t.registers) (c.reach-reach.ensures.state ∙ ap (λ (t : StateAndReaches _). t.state) c.position_of.ensures.unchanged)
     ∙ (written_none c.args.now s.registers c.in-Some.at r f register_is renewal
     ∙ registers_good c.args.now s.mode s.blocks s.registers f c.in-Some.at x r c.position_of.ensures.sizes c.position_of.ensures.apart (sym c.in-Some.ensures.found) block register_is told)
@@ -94,7 +91,7 @@ switch_on-requires-clause-live g c =
     let x = c.look.result.0.now in
     let r = c.look.result.1 in
     let told = reason_told x f c.is_other_kind-is_other_kind.result s.mode c.is_simulating-mode.result r.takes_simulated None c.is_other_kind-is_other_kind.ensures (c.is_simulating-mode.ensures ∙ ap (λ (t : StateAndReaches _). t.state.mode) c.position_of.ensures.unchanged) c.in_default-first_reason.ensures in
-    let renewal = sym c.in_ok-push_good.ensures.held ∙ c.in-Some-2.is in
+    let renewal = sym c.in_ok-put_good.ensures.held ∙ c.in-Some-2.is in
     new_ahead c.args.now x r f _ c.in-Some-2.held told renewal
 
 pub returns-then-is_switching-clause-entries : goal.returns-then-is_switching-clause-entries
@@ -106,9 +103,8 @@ returns-then-is_switching-clause-entries g c =
     let block = sym (ap₂ (λ (t : State _) (n : ℕ). slice_get t.blocks n) (c.reach-reach.ensures.state ∙ ap (λ (t : StateAndReaches _). t.state) c.position_of.ensures.unchanged) c.reach-reach.ensures.at) ∙ c.look.ensures.block in
     let register_is = sym (ap₂ (λ (t : State _) (n : ℕ). slice_get t.registers n) (c.reach-reach.ensures.state ∙ ap (λ (t : StateAndReaches _). t.state) c.position_of.ensures.unchanged) c.reach-reach.ensures.at) ∙ c.look.ensures.register in
     let told = reason_told x f c.is_other_kind-is_other_kind.result s.mode c.is_simulating-mode.result r.takes_simulated None c.is_other_kind-is_other_kind.ensures (c.is_simulating-mode.ensures ∙ ap (λ (t : StateAndReaches _). t.state.mode) c.position_of.ensures.unchanged) c.in_default-first_reason.ensures in
-    c.in_ok-push_good.ensures.entries
-    ∙ ap (λ (es : List (Entry _)). c.args.entries.now.items ++ es)
-    (answer_good c.args.now s.mode s.blocks s.registers f c.in-Some.at x r c.position_of.ensures.apart (sym c.in-Some.ensures.found) block register_is told)
+    subst (λ (es : List (Entry g.row.A.Denot)). g.E.EntrySink.gets c.args.entries.now es c.put_good.new.entries)
+    (answer_good c.args.now s.mode s.blocks s.registers f c.in-Some.at x r c.position_of.ensures.apart (sym c.in-Some.ensures.found) block register_is told) c.in_ok-put_good.ensures.entries
 
 pub returns-then-is_switching-clause-registers : goal.returns-then-is_switching-clause-registers
 returns-then-is_switching-clause-registers g c =
@@ -119,7 +115,7 @@ returns-then-is_switching-clause-registers g c =
     let block = sym (ap₂ (λ (t : State _) (n : ℕ). slice_get t.blocks n) (c.reach-reach.ensures.state ∙ ap (λ (t : StateAndReaches _). t.state) c.position_of.ensures.unchanged) c.reach-reach.ensures.at) ∙ c.look.ensures.block in
     let register_is = sym (ap₂ (λ (t : State _) (n : ℕ). slice_get t.registers n) (c.reach-reach.ensures.state ∙ ap (λ (t : StateAndReaches _). t.state) c.position_of.ensures.unchanged) c.reach-reach.ensures.at) ∙ c.look.ensures.register in
     let told = reason_told x f c.is_other_kind-is_other_kind.result s.mode c.is_simulating-mode.result r.takes_simulated None c.is_other_kind-is_other_kind.ensures (c.is_simulating-mode.ensures ∙ ap (λ (t : StateAndReaches _). t.state.mode) c.position_of.ensures.unchanged) c.in_default-first_reason.ensures in
-    let renewal = sym c.in_ok-push_good.ensures.held ∙ c.in-Some-2.is in
+    let renewal = sym c.in_ok-put_good.ensures.held ∙ c.in-Some-2.is in
     let new = c.in-Some-2.held in
     let flag : true ≡ (r.takes_simulated || f.pdu.simulation) = (flag_set r f (sym c.is_switching.ensures ∙ c.if-is_switching.true)).1 in
     let fresh = new_lives c.args.now x r f _ new told renewal in
@@ -139,7 +135,7 @@ returns-then-is_switching-clause-count g c =
     let block = sym (ap₂ (λ (t : State _) (n : ℕ). slice_get t.blocks n) (c.reach-reach.ensures.state ∙ ap (λ (t : StateAndReaches _). t.state) c.position_of.ensures.unchanged) c.reach-reach.ensures.at) ∙ c.look.ensures.block in
     let register_is = sym (ap₂ (λ (t : State _) (n : ℕ). slice_get t.registers n) (c.reach-reach.ensures.state ∙ ap (λ (t : StateAndReaches _). t.state) c.position_of.ensures.unchanged) c.reach-reach.ensures.at) ∙ c.look.ensures.register in
     let told = reason_told x f c.is_other_kind-is_other_kind.result s.mode c.is_simulating-mode.result r.takes_simulated None c.is_other_kind-is_other_kind.ensures (c.is_simulating-mode.ensures ∙ ap (λ (t : StateAndReaches _). t.state.mode) c.position_of.ensures.unchanged) c.in_default-first_reason.ensures in
-    let renewal = sym c.in_ok-push_good.ensures.held ∙ c.in-Some-2.is in
+    let renewal = sym c.in_ok-put_good.ensures.held ∙ c.in-Some-2.is in
     let new = c.in-Some-2.held in
     let register : Register = record { held = Some new; takes_simulated = true } in
     let fewer = written_fewer c.args.now s.registers c.in-Some.at register (new_lives c.args.now x r f _ new told renewal) in
@@ -156,7 +152,7 @@ hold-requires-clause-live g c =
     let x = c.look.result.0.now in
     let r = c.look.result.1 in
     let told = reason_told x f c.is_other_kind-is_other_kind.result s.mode c.is_simulating-mode.result r.takes_simulated None c.is_other_kind-is_other_kind.ensures (c.is_simulating-mode.ensures ∙ ap (λ (t : StateAndReaches _). t.state.mode) c.position_of.ensures.unchanged) c.in_default-first_reason.ensures in
-    let renewal = sym c.in_ok-push_good.ensures.held ∙ c.in-Some-2.is in
+    let renewal = sym c.in_ok-put_good.ensures.held ∙ c.in-Some-2.is in
     new_ahead c.args.now x r f _ c.in-Some-2.held told renewal
 
 pub returns-else-is_switching-clause-entries : goal.returns-else-is_switching-clause-entries
@@ -168,9 +164,8 @@ returns-else-is_switching-clause-entries g c =
     let block = sym (ap₂ (λ (t : State _) (n : ℕ). slice_get t.blocks n) (c.reach-reach.ensures.state ∙ ap (λ (t : StateAndReaches _). t.state) c.position_of.ensures.unchanged) c.reach-reach.ensures.at) ∙ c.look.ensures.block in
     let register_is = sym (ap₂ (λ (t : State _) (n : ℕ). slice_get t.registers n) (c.reach-reach.ensures.state ∙ ap (λ (t : StateAndReaches _). t.state) c.position_of.ensures.unchanged) c.reach-reach.ensures.at) ∙ c.look.ensures.register in
     let told = reason_told x f c.is_other_kind-is_other_kind.result s.mode c.is_simulating-mode.result r.takes_simulated None c.is_other_kind-is_other_kind.ensures (c.is_simulating-mode.ensures ∙ ap (λ (t : StateAndReaches _). t.state.mode) c.position_of.ensures.unchanged) c.in_default-first_reason.ensures in
-    c.in_ok-push_good.ensures.entries
-    ∙ ap (λ (es : List (Entry _)). c.args.entries.now.items ++ es)
-    (answer_good c.args.now s.mode s.blocks s.registers f c.in-Some.at x r c.position_of.ensures.apart (sym c.in-Some.ensures.found) block register_is told)
+    subst (λ (es : List (Entry g.row.A.Denot)). g.E.EntrySink.gets c.args.entries.now es c.put_good.new.entries)
+    (answer_good c.args.now s.mode s.blocks s.registers f c.in-Some.at x r c.position_of.ensures.apart (sym c.in-Some.ensures.found) block register_is told) c.in_ok-put_good.ensures.entries
 
 pub returns-else-is_switching-clause-registers : goal.returns-else-is_switching-clause-registers
 returns-else-is_switching-clause-registers g c =
@@ -181,7 +176,7 @@ returns-else-is_switching-clause-registers g c =
     let block = sym (ap₂ (λ (t : State _) (n : ℕ). slice_get t.blocks n) (c.reach-reach.ensures.state ∙ ap (λ (t : StateAndReaches _). t.state) c.position_of.ensures.unchanged) c.reach-reach.ensures.at) ∙ c.look.ensures.block in
     let register_is = sym (ap₂ (λ (t : State _) (n : ℕ). slice_get t.registers n) (c.reach-reach.ensures.state ∙ ap (λ (t : StateAndReaches _). t.state) c.position_of.ensures.unchanged) c.reach-reach.ensures.at) ∙ c.look.ensures.register in
     let told = reason_told x f c.is_other_kind-is_other_kind.result s.mode c.is_simulating-mode.result r.takes_simulated None c.is_other_kind-is_other_kind.ensures (c.is_simulating-mode.ensures ∙ ap (λ (t : StateAndReaches _). t.state.mode) c.position_of.ensures.unchanged) c.in_default-first_reason.ensures in
-    let renewal = sym c.in_ok-push_good.ensures.held ∙ c.in-Some-2.is in
+    let renewal = sym c.in_ok-put_good.ensures.held ∙ c.in-Some-2.is in
     let here = ap (λ (t : State _). slice_get t.registers c.in-Some.at) (c.reach-reach.ensures.state ∙ ap (λ (t : StateAndReaches _). t.state) c.position_of.ensures.unchanged) ∙ register_is in
     let new = c.in-Some-2.held in
     let flag : r.takes_simulated ≡ (r.takes_simulated || f.pdu.simulation) = flag_left r f (sym c.is_switching.ensures ∙ c.if-is_switching.false) in
@@ -202,7 +197,7 @@ returns-else-is_switching-clause-count g c =
     let block = sym (ap₂ (λ (t : State _) (n : ℕ). slice_get t.blocks n) (c.reach-reach.ensures.state ∙ ap (λ (t : StateAndReaches _). t.state) c.position_of.ensures.unchanged) c.reach-reach.ensures.at) ∙ c.look.ensures.block in
     let register_is = sym (ap₂ (λ (t : State _) (n : ℕ). slice_get t.registers n) (c.reach-reach.ensures.state ∙ ap (λ (t : StateAndReaches _). t.state) c.position_of.ensures.unchanged) c.reach-reach.ensures.at) ∙ c.look.ensures.register in
     let told = reason_told x f c.is_other_kind-is_other_kind.result s.mode c.is_simulating-mode.result r.takes_simulated None c.is_other_kind-is_other_kind.ensures (c.is_simulating-mode.ensures ∙ ap (λ (t : StateAndReaches _). t.state.mode) c.position_of.ensures.unchanged) c.in_default-first_reason.ensures in
-    let renewal = sym c.in_ok-push_good.ensures.held ∙ c.in-Some-2.is in
+    let renewal = sym c.in_ok-put_good.ensures.held ∙ c.in-Some-2.is in
     let here = ap (λ (t : State _). slice_get t.registers c.in-Some.at) (c.reach-reach.ensures.state ∙ ap (λ (t : StateAndReaches _). t.state) c.position_of.ensures.unchanged) ∙ register_is in
     let new = c.in-Some-2.held in
     let register : Register = record { held = Some new; takes_simulated = r.takes_simulated } in
@@ -213,8 +208,8 @@ returns-else-is_switching-clause-count g c =
     let less = subst (λ (rs : List Register). due_count c.args.now (helds rs) ≤ due_count c.args.now (helds s.registers)) (sym (c.hold.ensures.registers r here ∙ moved)) fewer in
     omega (arith, less, c.hold.ensures.count, first, before)
 
-pub returns-in_err-push_good-clause-room : goal.returns-in_err-push_good-clause-room
-returns-in_err-push_good-clause-room g c = λ none fits.
+pub returns-in_err-put_good-clause-room : goal.returns-in_err-put_good-clause-room
+returns-in_err-put_good-clause-room g c = λ none fits.
     let s = c.args.self.now.state in
     let f = received_frame c.args.frame.now in
     let x = c.look.result.0.now in
@@ -223,7 +218,7 @@ returns-in_err-push_good-clause-room g c = λ none fits.
     let register_is = sym (ap₂ (λ (t : State _) (n : ℕ). slice_get t.registers n) (c.reach-reach.ensures.state ∙ ap (λ (t : StateAndReaches _). t.state) c.position_of.ensures.unchanged) c.reach-reach.ensures.at) ∙ c.look.ensures.register in
     let told = reason_told x f c.is_other_kind-is_other_kind.result s.mode c.is_simulating-mode.result r.takes_simulated None c.is_other_kind-is_other_kind.ensures (c.is_simulating-mode.ensures ∙ ap (λ (t : StateAndReaches _). t.state.mode) c.position_of.ensures.unchanged) c.in_default-first_reason.ensures in
     let same = answer_good c.args.now s.mode s.blocks s.registers f c.in-Some.at x r c.position_of.ensures.apart (sym c.in-Some.ensures.found) block register_is told in
-    absurd (false≢true (c.in_err-push_good.ensures.room (ap changes same ∙ none) fits))
+    absurd (false≢true (c.in_err-put_good.ensures.room (ap changes same ∙ none) fits))
 
 pub returns-in_err-switch_on-in-Some-2-clause-room : goal.returns-in_err-switch_on-in-Some-2-clause-room
 returns-in_err-switch_on-in-Some-2-clause-room g c = λ none fits.

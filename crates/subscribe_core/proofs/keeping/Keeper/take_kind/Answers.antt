@@ -1,4 +1,4 @@
-use Rattle.std.proofs.Common.{◌++◌, List, ap, sym, ◌∙◌, append-nil}
+use Rattle.std.proofs.Common.{◌++◌, List, ap, subst, sym, ◌∙◌, append-nil}
 use Rattle.list_core.specs.declared.event.EventKind.{EventKind}
 use Rattle.subscribe_core.specs.declared.entry.Entry.{Entry}
 use Rattle.subscribe_core.specs.computed.Content.{content_of}
@@ -12,7 +12,10 @@ returns-in-Clock-clause-entries g c =
     let s = c.args.self.now.state in
     let none = ap (λ (k : EventKind _). switched_entries s.mode (content_of k) 0 s.blocks s.registers ++ said_of c.args.now s.mode s.blocks s.registers (content_of k)) c.in-Clock.is
     ∙ (append-nil _ ∙ switched_clock s.mode s.blocks s.registers) in
-    sym (ap (λ (es : List (Entry _)). c.args.entries.now.items ++ es) none ∙ append-nil c.args.entries.now.items)
+    subst (λ (es : List (Entry g.row.A.Denot)). g.E.EntrySink.gets c.args.entries.now es c.args.entries.now) (sym none) (g.met.E.EntrySink.gets_none _)
+
+pub returns-in-Clock-clause-grown : goal.returns-in-Clock-clause-grown
+returns-in-Clock-clause-grown g c = g.met.E.EntrySink.grows_none _
 
 pub returns-in-Clock-clause-registers : goal.returns-in-Clock-clause-registers
 returns-in-Clock-clause-registers g c =

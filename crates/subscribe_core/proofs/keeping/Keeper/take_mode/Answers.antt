@@ -1,4 +1,4 @@
-use Rattle.std.proofs.Common.{◌++◌, Bool, List, length, ap, sym, ◌∙◌, append-nil, arith}
+use Rattle.std.proofs.Common.{Bool, List, length, ap, subst, sym, ◌∙◌, arith}
 use Rattle.std.proofs.lemmas.Bool.{false≢true}
 use Rattle.subscribe_core.specs.declared.entry.Entry.{Entry}
 use Rattle.subscribe_core.specs.declared.registers.Register.{Register}
@@ -17,7 +17,10 @@ pub returns-then-on-clause-entries : goal.returns-then-on-clause-entries
 returns-then-on-clause-entries g c =
     let s = c.args.self.now.state in
     let none = ap (λ (on : Bool). switched_entries s.mode (OfMode on) 0 s.blocks s.registers) c.if-on.true ∙ switched_on s.mode s.blocks s.registers in
-    sym (ap (λ (es : List (Entry _)). c.args.entries.now.items ++ es) none ∙ append-nil c.args.entries.now.items)
+    subst (λ (es : List (Entry g.row.A.Denot)). g.E.EntrySink.gets c.args.entries.now es c.args.entries.now) (sym none) (g.met.E.EntrySink.gets_none _)
+
+pub returns-then-on-clause-grown : goal.returns-then-on-clause-grown
+returns-then-on-clause-grown g c = g.met.E.EntrySink.grows_none _
 
 pub returns-then-on-clause-registers : goal.returns-then-on-clause-registers
 returns-then-on-clause-registers g c = λ now.
@@ -37,9 +40,8 @@ pub returns-clause-entries : goal.returns-clause-entries
 returns-clause-entries g c =
     let s = c.args.self.now.state in
     let same = switched_off_entries s.mode 0 s.blocks s.registers c.list_switched.ensures.sizes in
-    c.in_ok-list_switched.ensures.entries
-    ∙ ap (λ (es : List (Entry _)). c.args.entries.now.items ++ es)
-    (sym (ap (λ (on : Bool). switched_entries s.mode (OfMode on) 0 s.blocks s.registers) c.if-on.false ∙ same))
+    subst (λ (es : List (Entry g.row.A.Denot)). g.E.EntrySink.gets c.args.entries.now es c.list_switched.new.entries)
+    (sym (ap (λ (on : Bool). switched_entries s.mode (OfMode on) 0 s.blocks s.registers) c.if-on.false ∙ same)) c.in_ok-list_switched.ensures.entries
 
 pub returns-clause-registers : goal.returns-clause-registers
 returns-clause-registers g c = λ now.
