@@ -173,7 +173,7 @@ impl<A: Allocator + Copy> Keeper<A> {
         self.rows.look(reach)
     }
 
-    // Appends an entry for each block that expires at the moment, in their order.
+    // Hands over an entry for each block that expires at the moment, in their order.
     fn list_expired<E: EntrySink<A>>(&self, now: u64, entries: &mut E) -> Result<(), AllocError>
         ensures entries { OnOk result (E.gets entries.old (expired_entries now 0 self.now.state.registers) entries.new) }
         ensures quiet { expired_entries {A = A} now 0 self.now.state.registers ≡ [] → IsOk result }
@@ -246,7 +246,9 @@ impl<A: Allocator + Copy> Keeper<A> {
         let _ = self.alloc();
     }
 
-    // Takes a frame of GOOSE: its entries, and what its block then holds.
+    // Takes a frame of GOOSE: its entries, and what its block then holds. Inlined where the memory has the frame, so that nothing of it
+    // is moved that is not looked at.
+    #[inline(always)]
     fn take_goose<E: EntrySink<A>>(
         &mut self,
         now: u64,
@@ -316,6 +318,16 @@ impl<A: Allocator + Copy> Keeper<A> {
             ++ said_of now self.old.state.mode self.old.state.blocks self.old.state.registers (content_by (frame_at octets.now))) ≡ [] → E.has_room entries.old → IsOk result }
     {
         self.know_sizes();
+        if let Some(again) = memory.alike(octets) {
+            let view = again.frame(octets);
+            if let ApduView::Goose(goose) = view.apdu {
+                let frame = Received {
+                    app_id: view.app_id,
+                    goose,
+                };
+                return self.take_goose(now, &frame, entries);
+            }
+        }
         match memory.view(octets) {
             Err(fault) => {
                 entries.put_entry(PlainEntry::Faulty(fault))?;
@@ -337,7 +349,7 @@ impl<A: Allocator + Copy> Keeper<A> {
         }
     }
 
-    // Appends an entry for each block that takes simulated frames.
+    // Hands over an entry for each block that takes simulated frames.
     fn list_switched<E: EntrySink<A>>(&mut self, entries: &mut E) -> Result<(), AllocError>
         ensures entries { OnOk result (E.gets entries.old (flagged_entries 0 self.old.state.registers) entries.new) }
         ensures quiet { flagged_entries {A = A} 0 self.old.state.registers ≡ [] → IsOk result }
@@ -432,7 +444,7 @@ impl<A: Allocator + Copy> Keeper<A> {
         }
     }
 
-    // Takes one event, by what is kept, and appends its entries.
+    // Takes one event, by what is kept, and hands over its entries.
     fn take_counted<E: EntrySink<A>>(
         &mut self,
         memory: &mut FrameMemory<A, Nothing>,
@@ -457,7 +469,7 @@ impl<A: Allocator + Copy> Keeper<A> {
         Ok(())
     }
 
-    // Takes one event, by what is kept, and has a list be its entries. What the memory of frames holds changes no answer.
+    // Takes one event, by what is kept, and hands its entries to a sink. What the memory of frames holds changes no answer.
     //
     // What `looks` then answers is by how much the count of all reaches grew.
     pub(crate) fn step<E: EntrySink<A>>(
