@@ -137,6 +137,7 @@ impl<A: Allocator + Copy> Deadlines<A> {
     }
 
     // Has an inner node and those above it have the lesser of the nodes below them again.
+    #[inline(always)]
     fn settle(&mut self, from: usize)
         requires { from < half self.old.nodes.items }
         ensures length { length self.new.nodes.items ≡ length self.old.nodes.items }
@@ -155,6 +156,7 @@ impl<A: Allocator + Copy> Deadlines<A> {
     }
 
     // Writes the deadline of the block at a position.
+    #[inline(always)]
     fn put(&mut self, at: usize, last: u64)
         ensures length { length self.new.nodes.items ≡ length self.old.nodes.items }
         ensures lesser { AreLesser self.old.nodes.items → AreLesser self.new.nodes.items }
@@ -169,6 +171,7 @@ impl<A: Allocator + Copy> Deadlines<A> {
     }
 
     // Gives a block a deadline in place of the one that it had.
+    #[inline(always)]
     pub(crate) fn renew(&mut self, at: usize, deadline: u128)
         requires { 0 < deadline }
         ensures { (held : List (Option SpecLiveState)) (new : SpecLiveState) → at < length held → new.deadline ≡ deadline

@@ -144,6 +144,7 @@ impl<A: Allocator + Copy> Keeper<A> {
     }
 
     // The position of the frame's block.
+    #[inline(always)]
     fn position_of(&mut self, frame: &Received<'_>) -> Option<usize>
         ensures found { result ≡ position (is_of (received_frame frame.now)) self.old.state.blocks }
         ensures sizes { length self.old.state.registers ≡ length self.old.state.blocks }
@@ -196,6 +197,7 @@ impl<A: Allocator + Copy> Keeper<A> {
     }
 
     // Has a block hold something in place of what it held.
+    #[inline(always)]
     fn hold(&mut self, at: usize, held: LiveState)
         requires within { at < length self.old.state.registers }
         requires live { 0 < held.deadline }

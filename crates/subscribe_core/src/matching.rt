@@ -21,6 +21,7 @@ pub struct Received<'a> {
 }
 
 // Whether a goID is awaited, and the frame has another or none.
+#[inline(always)]
 fn is_other_id<A: Allocator>(awaited: &Option<Octets<A>>, id: Option<&[u8]>) -> bool
     ensures { result ≡ has_other_id awaited.now (octets_if id.entry) }
 {
@@ -43,6 +44,7 @@ pub(crate) fn is_other_kind(frame: &Received<'_>, mode: bool, takes_simulated: b
 }
 
 // The first reason for which a frame of the block is refused.
+#[inline(always)]
 pub(crate) fn first_reason<A: Allocator>(
     block: &Block<A>,
     frame: &Received<'_>,

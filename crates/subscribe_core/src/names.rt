@@ -112,6 +112,7 @@ pub(crate) fn first_twice<A: Allocator>(names: &[Name<A>]) -> Option<usize>
 }
 
 // Whether a name has an APPID and a gocbRef.
+#[inline(always)]
 fn is_named<A: Allocator>(name: &Name<A>, app_id: u16, gocb_ref: &[u8]) -> bool
     ensures { IsTrue result ↔ (key_of name.now ≡ (app_id, gocb_ref.now)) }
 {
@@ -119,6 +120,7 @@ fn is_named<A: Allocator>(name: &Name<A>, app_id: u16, gocb_ref: &[u8]) -> bool
 }
 
 // The position of the block with this name, if the name stands at a place.
+#[inline(always)]
 fn position_at<A: Allocator>(
     names: &[Name<A>],
     place: usize,
@@ -136,6 +138,7 @@ fn position_at<A: Allocator>(
 }
 
 // The position of the block with this name. Where the name stands is guessed first.
+#[inline(always)]
 pub(crate) fn position_named<A: Allocator>(
     names: &[Name<A>],
     guesses: &mut Guesses,
