@@ -1,5 +1,5 @@
 -- The line of a frame of GOOSE around its two numbers.
-use Rattle.std.proofs.Common.{◌≡◌, ℕ, ◌-◌, List, [], ◌++◌, length, take, drop, Result, Ok, Bool, true, false, ap, ap₂, refl, sym, subst, ◌∙◌, append_assoc, arith, length-append}
+use Rattle.std.proofs.Common.{◌≡◌, ℕ, ◌-◌, List, [], ◌++◌, length, take, drop, Ok, Bool, true, false, ap, ap₂, refl, sym, subst, ◌∙◌, append_assoc, arith, length-append}
 use Rattle.std.proofs.Math.Seq.{drop-append_seam, take-append_seam, take-length}
 use Rattle.std.proofs.lemmas.List.{append-nil}
 use Rattle.std.specs.Prelude.{codes, slice_range}
@@ -184,10 +184,6 @@ pub kept_numbered : {A : Type 0} (in_object whole : Bool) (text : List ℕ) (fir
 kept_numbered false whole text first second f keeps = λ n live sq_num. ap (frame_line n) (sym (renumbered f live sq_num)) ∙ keeps n live sq_num
 kept_numbered true false text first second f keeps = λ live sq_num. ap before_members (sym (renumbered f live sq_num)) ∙ keeps live sq_num
 kept_numbered true true text first second f keeps = (sym (ap are_settled (members_numbered f 0 0)) ∙ keeps.0, λ live sq_num. ap behind_head (sym (renumbered f live sq_num)) ∙ keeps.1 live sq_num)
-
--- two frames that are read from the same octets are one
-pub same_frame : {F : Type 0} (r : Result (Frame (Unit {0})) F) (f h : Frame (Unit {0})) → r ≡ Ok f → r ≡ Ok h → f ≡ h
-same_frame r f h is too = cc
 
 -- what is written of octets that spell a frame that is kept whole
 pub whole_answer : (counted : Counted) (n moment : ℕ) (octets : List ℕ) (f : Frame (Unit {0})) → frame_at octets ≡ Ok f → (live sq_num : ℕ) → IsNumbered live sq_num f.apdu

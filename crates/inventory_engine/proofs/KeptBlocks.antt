@@ -1,5 +1,5 @@
 -- The text that is kept of a control block is that of each frame that repeats the one it was made of.
-use Rattle.std.proofs.Common.{◌≡◌, ℕ, Result, Ok, refl}
+use Rattle.std.proofs.Common.{◌≡◌, ℕ, refl}
 use Rattle.frame_core.specs.declared.frame.Apdu.{Apdu}
 use Rattle.frame_core.specs.declared.frame.Apdu.TheVariants as apdus
 use Rattle.frame_core.specs.declared.frame.Frame.{Frame}
@@ -12,7 +12,3 @@ with_numbered app_id live sq_num (apdus.Sampled p) = refl
 
 pub shown_unnumbered : {A : Type 0} (f : Frame A) → text_shown (unnumbered f) ≡ text_shown f
 shown_unnumbered f = with_numbered f.app_id 0 0 f.apdu
-
--- two frames that are read from the same octets are one
-pub same_frame : {F : Type 0} (r : Result (Frame (Unit {0})) F) (f h : Frame (Unit {0})) → r ≡ Ok f → r ≡ Ok h → f ≡ h
-same_frame r f h is too = cc

@@ -11,6 +11,19 @@ pub inner_same : (held octets : List ℕ) (a b c i j : ℕ) → slice_range octe
 inner_same held octets a b c i j same low order high top =
     sym (region-inner octets a b i j low order high) ∙ ap (λ (s : List ℕ). slice_range s (i - a) (j - a)) same ∙ region-inner held a c i j low order top
 
+-- octets that are the same up to sqNum and behind it are alike
+pub alike_up_to : (held octets : List ℕ) (n : Notes) → IsPlaced (length held) n → length octets ≡ length held → slice_range octets 0 n.sq_num.contents_from ≡ slice_range held 0 n.sq_num.contents_from
+    → slice_range octets n.sq_num.contents_to (length octets) ≡ slice_range held n.sq_num.contents_to (length held) → AreAlike held octets n
+alike_up_to held octets n placed size low back =
+    let to = n.sq_num.contents_from in
+    let behind : n.live.contents_to ≤ to = omega (arith, placed.between, placed.sq_num) in
+    record {
+      size = size;
+      front = inner_same held octets 0 to to 0 n.live.contents_from low (omega arith) (omega arith) (omega (arith, behind, placed.live_ends)) (omega (arith, behind, placed.live_ends));
+      middle = inner_same held octets 0 to to n.live.contents_to to low (omega arith) behind (omega arith) (omega arith);
+      back = back;
+    }
+
 module _ (held octets : List ℕ) (n : Notes) (same : AreAlike held octets n) (placed : IsPlaced (length held) n) where
   pub low_same : (i j : ℕ) → i ≤ j → j ≤ n.live.contents_from → slice_range octets i j ≡ slice_range held i j
   low_same i j order high = inner_same held octets 0 n.live.contents_from n.live.contents_from i j same.front (omega arith) order high high

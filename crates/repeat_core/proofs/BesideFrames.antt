@@ -1,5 +1,5 @@
 -- The frame that is noted of octets is that of octets that are alike, but for two numbers: what is kept beside the one suits the other.
-use Rattle.std.proofs.Common.{Bool, ◌≡◌, ℕ, ◌+◌, ◌≤◌, true, cond, eqb, List, length, Ok, Option, Some, None, refl, sym, ap, ap₂, subst, ◌∙◌, arith}
+use Rattle.std.proofs.Common.{Bool, ◌≡◌, ℕ, ◌+◌, ◌≤◌, true, cond, eqb, List, length, Result, Ok, Option, Some, None, refl, sym, ap, ap₂, subst, ◌∙◌, arith}
 use Rattle.std.proofs.Math.Logic.{∥∥₁_elim}
 use Rattle.std.proofs.lemmas.Bool.{false≢true}
 use Rattle.std.specs.Borrow.{Bor}
@@ -22,6 +22,10 @@ use Rattle.repeat_core.specs.declared.again.Again.{Again}
 use Rattle.repeat_core.specs.declared.notes.Notes.{Notes}
 use Rattle.repeat_core.proofs.AlikeParts.{inner_same, low_same, pdu_same}
 use Rattle.repeat_core.proofs.Envelopes.{word_same}
+
+-- two frames that are read from the same octets are one
+pub same_frame : {F : Type 0} (r : Result (Frame (Unit {0})) F) (f h : Frame (Unit {0})) → r ≡ Ok f → r ≡ Ok h → f ≡ h
+same_frame r f h is too = cc
 
 -- the frame that is noted is the one that is read
 pub noted_read : (o : List ℕ) (n : Notes) (live sq_num : ℕ) → Shows o n live sq_num → frame_at o ≡ Ok (noted_frame o n live sq_num)

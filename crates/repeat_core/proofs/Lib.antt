@@ -12,4 +12,4 @@ mod WrittenWhole
 mod WrittenFrames
 mod FromSeen
 pub mod OtherForms
-mod BesideFrames
+pub mod BesideFrames

@@ -4,7 +4,8 @@ use Rattle.frame_core.specs.declared.frame_view.ApduView.{ApduView}
 use Rattle.inventory_engine.specs.Configuration.{Configuration}
 use Rattle.inventory_engine.specs.Sightings.{block_text}
 use Rattle.inventory_engine.specs.computed.KeptBlock.{text_shown, text_with}
-use Rattle.inventory_engine.proofs.KeptBlocks.{same_frame, shown_unnumbered}
+use Rattle.repeat_core.proofs.BesideFrames.{same_frame}
+use Rattle.inventory_engine.proofs.KeptBlocks.{shown_unnumbered}
 use Rattle.inventory_engine.proofs.kept_block.keep_text.Goals as goal
 
 pub keep-requires : goal.keep-requires

@@ -9,7 +9,8 @@ use Rattle.inventory_engine.specs.Sightings.{Sighting, block_sighting, sightings
 use Rattle.inventory_engine.specs.computed.BlocksStep.{AppendsLines, telling_at}
 use Rattle.inventory_engine.specs.computed.KeptBlock.{text_shown, text_with}
 use Rattle.repeat_core.specs.Numbered.{unnumbered}
-use Rattle.inventory_engine.proofs.KeptBlocks.{same_frame, shown_unnumbered}
+use Rattle.repeat_core.proofs.BesideFrames.{same_frame}
+use Rattle.inventory_engine.proofs.KeptBlocks.{shown_unnumbered}
 use Rattle.inventory_engine.proofs.Appending.{appends_as, wanted_as}
 use Rattle.inventory_engine.proofs.sighting.put_event.Goals as goal
 

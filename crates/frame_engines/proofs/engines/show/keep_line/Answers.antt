@@ -2,7 +2,8 @@ use Rattle.std.proofs.Common.{subst}
 use Rattle.frame_core.specs.FrameViews.{frame_of}
 use Rattle.frame_core.specs.declared.frame.Frame.{Frame}
 use Rattle.frame_engines.specs.computed.KeptLine.{KeepsLine}
-use Rattle.frame_engines.proofs.KeptLines.{kept_unnumbered, same_frame}
+use Rattle.repeat_core.proofs.BesideFrames.{same_frame}
+use Rattle.frame_engines.proofs.KeptLines.{kept_unnumbered}
 use Rattle.frame_engines.proofs.engines.show.keep_line.Goals as goal
 
 pub keep-requires : goal.keep-requires

@@ -6,7 +6,8 @@ use Rattle.object_core.proofs.Appending.{exactly}
 use Rattle.repeat_core.specs.Numbered.{unnumbered}
 use Rattle.frame_engines.specs.ShowObject.{IsAnswerObject}
 use Rattle.frame_engines.specs.computed.KeptLine.{KeepsLine}
-use Rattle.frame_engines.proofs.KeptLines.{kept_numbered, same_frame, whole_answer}
+use Rattle.repeat_core.proofs.BesideFrames.{same_frame}
+use Rattle.frame_engines.proofs.KeptLines.{kept_numbered, whole_answer}
 use Rattle.frame_engines.proofs.engines.show.put_octets_object.Goals as goal
 
 pub put_kept_object-requires-clause-kept : goal.put_kept_object-requires-clause-kept
