@@ -134,15 +134,16 @@ impl<A: Allocator, F: InputFault + LastLine + LastObject, S: HasStyle, E: EventE
         event: Event<A>,
         spare: &mut Option<Event<A>>,
     ) -> Result<bool, ReadError<F::Refusal>> {
+        *spare = Some(event);
+        let Some(event) = spare else { unreachable!() };
         let put = put_in_style(
             self.style.style(),
             &mut self.engine,
             &mut self.undated,
             line,
             number,
-            &event,
+            event,
         );
-        *spare = Some(event);
         match put {
             Ok(found) => Ok(found),
             Err(error) => Err(ReadError::Memory(error)),

@@ -1,6 +1,6 @@
 //! The control blocks and streams that were seen, in order, each with the text that was written of it last.
 
-ghost use Rattle.std.specs.Prelude.{◌≡◌, IfOk};
+ghost use Rattle.std.specs.Prelude.{◌≡◌, IfOk, true};
 ghost use Rattle.std.specs.List.{flat_map};
 ghost use Rattle.inventory_engine.specs.computed.KnownTexts.{key_cmp, known_key, known_name, known_text};
 ghost use Rattle.inventory_engine.specs.computed.PieceText.{piece_text};
@@ -15,7 +15,7 @@ use std::cmp::Ordering;
 /// behind the name, in one piece of memory for both.
 #[derive(Drop)]
 pub struct Known<A: Allocator> {
-    app_id: Option<u16>,
+    pub(crate) app_id: Option<u16>,
     octets: Octets<A>,
     text_at: usize,
 }
@@ -65,11 +65,22 @@ impl<A: Allocator> Known<A> {
         octets.split_at(self.text_at.min(octets.len()))
     }
 
-    // The gocbRef or the svID.
-    fn name(&self) -> &[u8]
+    /// The gocbRef or the svID.
+    pub fn name(&self) -> &[u8]
         ensures { result.now ≡ known_name self.now }
     {
         self.parts().0
+    }
+
+    /// Whether another is known to be the same one with the same text.
+    #[inline(always)]
+    pub fn is_same(&self, other: &Known<A>) -> bool
+        ensures key { result ≡ true → known_key self.now ≡ known_key other.now }
+        ensures text { result ≡ true → known_text self.now ≡ known_text other.now }
+    {
+        rank(self.app_id) == rank(other.app_id)
+            && self.text_at == other.text_at
+            && self.octets.as_slice() == other.octets.as_slice()
     }
 
     /// The text.

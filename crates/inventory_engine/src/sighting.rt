@@ -1,6 +1,6 @@
 //! The lines of sightings.
 
-ghost use Rattle.std.specs.Prelude.{◌≡◌, ◌∷◌, ◌++◌, ℕ, List, [], IfOk, OnErr, OnOk, Some, length, take, true};
+ghost use Rattle.std.specs.Prelude.{◌≡◌, ◌∷◌, ◌++◌, ℕ, List, [], IfOk, OnErr, OnOk, Some, length, take};
 ghost use Rattle.std.specs.List.{flat_map};
 ghost use Rattle.std.specs.Fmt.{decimal};
 ghost use Rattle.pdu_core.specs.SampledViews.{asdu_of, asdus_left};
@@ -12,8 +12,8 @@ ghost use Rattle.inventory_engine.specs.Configuration.{configuration_of};
 ghost use Rattle.inventory_engine.specs.SightingObject.{block_fields, name_fields, sighting_object, stream_fields};
 ghost use Rattle.inventory_engine.specs.computed.ShownFields.{configuration_shown, shown_fields, sighting_by};
 ghost use Rattle.inventory_engine.specs.computed.PieceText.{piece_text};
-ghost use Rattle.inventory_engine.specs.Sightings.{Sighting, block_sighting, key_of, sightings_of, stream_by, stream_sighting, stream_sightings};
-ghost use Rattle.inventory_engine.specs.BlocksText.{Telling, changed_kind, first_kind, sighting_line, spaced_word, told_by};
+ghost use Rattle.inventory_engine.specs.Sightings.{block_sighting, sightings_of, stream_by, stream_sighting, stream_sightings};
+ghost use Rattle.inventory_engine.specs.BlocksText.{changed_kind, first_kind, sighting_line, spaced_word, told_by};
 ghost use Rattle.inventory_engine.specs.computed.BlocksStep.{AppendsLines, HasLines, telling_at};
 ghost use Rattle.inventory_engine.specs.computed.KnownTexts.{by_key};
 ghost use Rattle.known_core.specs.computed.Held.{AnswersPlace};
@@ -22,7 +22,7 @@ use crate::block_text::{
     ShownBlock, block_pieces, block_shown, has_fields, is_block_text, named_pieces,
 };
 use crate::inventory::{Inventory, Sought, set_text};
-use crate::kept_block::{KeptBlock, keep_text};
+use crate::kept_block::{KeptBlock, keep_block};
 use crate::known::Known;
 use crate::pieces::{Piece, is_text, put_pieces, put_quoted_pieces, text_size};
 use crate::stream_text::{is_stream_text, stream_pieces};
@@ -311,26 +311,6 @@ fn put_block<A: Allocator + Copy>(
     }
 }
 
-// Whether the control block with this APPID and gocbRef is known with this text. Inlined, since nearly every frame asks it.
-#[inline(always)]
-fn is_known_so<A: Allocator + Copy>(
-    known: &Inventory<A>,
-    app_id: u16,
-    gocb_ref: &[u8],
-    text: &[u8],
-) -> bool
-    ensures { (how : Telling) (s : Sighting) (line : List ℕ) → result ≡ true → key_of s ≡ (Some app_id, gocb_ref.now) → s.text ≡ text.now → AppendsLines how (s ∷ []) known.now known.now line line }
-{
-    let found = known.place_of(&Sought {
-        app_id: Some(app_id),
-        name: gocb_ref,
-    });
-    match found {
-        Ok(place) => known.get(place).text() == text,
-        Err(_) => false,
-    }
-}
-
 // Appends what is written of the stream of an ASDU that is not known as it shows it: a call of its own, as that of a block.
 #[inline(never)]
 fn put_other_stream<A: Allocator + Copy>(
@@ -421,14 +401,11 @@ pub fn put_event<A: Allocator + Copy>(
     let octets = octets.as_slice();
     if let Some(again) = memory.alike(octets) {
         if let Some(kept) = again.beside {
-            let frame = again.frame(octets);
-            if let ApduView::Goose(goose) = &frame.apdu {
-                if is_known_so(known, frame.app_id, goose.gocb_ref, &kept.text) {
-                    return Ok(());
-                }
+            if kept.is_known(known) {
+                return Ok(());
             }
         } else {
-            keep_text(alloc, memory, octets);
+            keep_block(alloc, memory, known, octets);
         }
     }
     match memory.view(octets) {

@@ -1,7 +1,7 @@
 //! Entries in runs that stand in order over all of them. No run is empty, and one that is full is cut in two: so a place more
 //! moves the entries of one run behind it, and not all that are held.
 
-ghost use Rattle.std.specs.Prelude.{◌≡◌, ℕ, ◌+◌, ◌-◌, ◌/◌, ◌<◌, ◌≤◌, max, [], ◌++◌, false, IfOk, IsTrue, OnErr, OnOk, Vec, drop, length, slice_index_or, take, vec_capacity};
+ghost use Rattle.std.specs.Prelude.{◌≡◌, ℕ, ◌+◌, ◌-◌, ◌/◌, ◌<◌, ◌≤◌, max, [], ◌++◌, false, IfOk, IfSome, IsTrue, OnErr, OnOk, Vec, drop, length, slice_index_or, take, vec_capacity};
 ghost use Rattle.std.specs.List.{insert};
 ghost use Rattle.known_core.specs.computed.Held.{AnswersPlace, HoldsSame, IsCompact, IsPlace, PutsOne, TakesPlace, WritesOne, held, in_run, position_of};
 ghost use Rattle.known_core.specs.computed.RunSteps.{AnswersSearch, IsRunOf, MovesPlace, begins_behind as stands_behind};
@@ -149,6 +149,19 @@ impl<E: Drop, A: Allocator + Copy> Runs<E, A> {
         ensures { (d : E) → result.now ≡ slice_index_or (held self.now) (position_of self.now place) d }
     {
         &self.runs[place.run][place.at]
+    }
+
+    /// The one at a place, where there is one: of a place that was so before others were put.
+    #[inline(always)]
+    pub fn get_if(&self, place: Place) -> Option<&E>
+        ensures within { IfSome result (λ _. position_of self.now place < length (held self.now)) }
+        ensures value { IfSome result (λ one. (d : E) → one.now ≡ slice_index_or (held self.now) (position_of self.now place) d) }
+    {
+        if place.run < self.runs.len() && place.at < self.runs[place.run].len() {
+            Some(self.get(place))
+        } else {
+            None
+        }
     }
 
     /// Puts another in the place of one.

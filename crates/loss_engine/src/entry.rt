@@ -1,7 +1,7 @@
 //! What is kept of one sender or one stream.
 
 ghost use Rattle.std.specs.Prelude.{◌≡◌, IfOk, Some, None};
-ghost use Rattle.loss_engine.specs.KeySaid.{key_said, stream_said};
+ghost use Rattle.loss_engine.specs.KeySaid.{key_said, sender_said, stream_said};
 ghost use Rattle.loss_engine.specs.Sights.{same_key};
 ghost use Rattle.loss_engine.specs.computed.Entries.{entry_key, progress_of};
 ghost use Rattle.loss_engine.specs.LossText.{with_end};
@@ -100,6 +100,17 @@ impl<A: Allocator> Entry<A> {
             (Key::Sender(own), Key::Sender(other)) => own.is_same(other),
             (Key::Stream(own), Key::Stream(other)) => own.is_same(other),
             _ => false,
+        }
+    }
+
+    /// Whether this is the sender with a key.
+    #[inline(always)]
+    pub fn is_sender(&self, key: SenderKey<'_>) -> bool
+        ensures { result ≡ same_key (entry_key self.now) (sender_said key.entry) }
+    {
+        match self.key() {
+            Key::Sender(own) => own.is_same(key),
+            Key::Stream(_) => false,
         }
     }
 

@@ -45,6 +45,7 @@ fn is_same_truth(own: bool, other: bool) -> bool
 
 impl SenderKey<'_> {
     /// Whether both are one.
+    #[inline(always)]
     pub fn is_same(self, other: SenderKey<'_>) -> bool
         ensures { result ≡ same_key (sender_said self.entry) (sender_said other.entry) }
     {

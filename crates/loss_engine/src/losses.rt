@@ -15,7 +15,7 @@ ghost use Rattle.loss_engine.specs.computed.Tracking.{frames, first_samples, kep
 use crate::closing::Closing;
 use crate::entry::{Entry, Progress, first_told};
 use crate::key::{Key, SenderKey, StreamKey};
-use crate::roll::Roll;
+use crate::roll::{Roll, number_of};
 use crate::unjudged::Unjudged;
 use loss_core::{
     Arrival, Came, Pair, Sample, SenderTally, StreamPeriod, StreamTally, Told, period_of,
@@ -154,7 +154,8 @@ impl<A: Allocator + Copy> Losses<A> {
     }
 
     /// Takes a frame of a sender with this lifetime in milliseconds, and answers what it tells. Memory is wanted for a new sender
-    /// alone.
+    /// alone. Inlined, so that what a frame tells is not handed on in memory.
+    #[inline(always)]
     pub fn take_frame(
         &mut self,
         alloc: A,
@@ -173,9 +174,9 @@ impl<A: Allocator + Copy> Losses<A> {
             moment: self.greatest,
             lifetime: 1000 * u64::from(live),
         };
-        match self.roll.position_of(Key::Sender(key)) {
+        match self.roll.position_of_sender(key) {
             Some(at) => {
-                let told = self.roll.take_frame(at, frame);
+                let told = self.roll.take_frame(number_of(Key::Sender(key)), at, frame);
                 Ok((frame, told))
             }
             None => {
@@ -229,7 +230,8 @@ impl<A: Allocator + Copy> Losses<A> {
         };
         match self.roll.position_of_stream(key) {
             Some(at) => {
-                let answer = self.roll.take_sample(at, sample, synch);
+                let number = number_of(Key::Stream(key));
+                let answer = self.roll.take_sample(number, at, sample, synch);
                 Ok(answer)
             }
             None => self.take_first(alloc, key, sample, synch),

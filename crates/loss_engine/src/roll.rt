@@ -2,7 +2,7 @@
 
 ghost use Rattle.std.specs.Prelude.{◌≡◌, ◌<◌, ◌++◌, ◌∷◌, [], IfSome, IsSome, IsTrue, None, OnErr, OnOk, Some, length, slice_get};
 ghost use Rattle.loss_core.specs.Sender.{told_after};
-ghost use Rattle.loss_engine.specs.KeySaid.{key_said, stream_said};
+ghost use Rattle.loss_engine.specs.KeySaid.{key_said, sender_said, stream_said};
 ghost use Rattle.loss_engine.specs.Sights.{Key as SpecKey};
 ghost use Rattle.loss_engine.specs.computed.Entries.{Finds, IsFirstAt, all_tracked, entry_key, tracked_by};
 ghost use Rattle.loss_engine.specs.computed.KeyOrder.{key_cmp};
@@ -10,7 +10,7 @@ ghost use Rattle.loss_engine.specs.computed.Roll.{HasKeyAt};
 ghost use Rattle.loss_engine.specs.computed.Tracking.{Progress as Known, TellsSample, known_of, more_frames, more_samples, sender_of, with_progress};
 
 use crate::entry::Entry;
-use crate::key::{Key, StreamKey};
+use crate::key::{Key, SenderKey, StreamKey};
 use crate::order::compare_keys;
 use known_core::{Probe, Runs, find_position};
 use loss_core::{Arrival, Came, Sample, Told};
@@ -57,9 +57,9 @@ impl<A: Allocator> Model for Roll<A> {
     ghost invariant = { λ r. AreInOrder key_cmp entry_key r.entries.items r.positions };
 }
 
-// The number of a key. Control blocks and streams of one network mostly differ in APPID, and else in what their names end with.
+/// The number of a key. Control blocks and streams of one network mostly differ in APPID, and else in what their names end with.
 #[inline(always)]
-fn number_of(key: Key<'_>) -> u8 {
+pub fn number_of(key: Key<'_>) -> u8 {
     let (app_id, name) = match key {
         Key::Sender(sender) => (sender.app_id, sender.reference),
         Key::Stream(stream) => (stream.app_id, stream.id),
@@ -89,6 +89,20 @@ fn has_guessed<A: Allocator>(entries: &[Entry<A>], guess: usize, key: Key<'_>) -
     ensures { IsTrue result → HasKeyAt entries.now (key_said key.entry) guess }
 {
     entries.len() <= FEW && has_at(entries, guess, key)
+}
+
+// Whether the one at a position that is guessed at is the sender with a key.
+#[inline(always)]
+fn has_sender_guessed<A: Allocator>(entries: &[Entry<A>], guess: usize, key: SenderKey<'_>) -> bool
+    ensures { IsTrue result → HasKeyAt entries.now (sender_said key.entry) guess }
+{
+    if entries.len() > FEW {
+        return false;
+    }
+    match entries.get(guess) {
+        Some(entry) => entry.is_sender(key),
+        None => false,
+    }
 }
 
 // Whether the one at a position is the stream with a key.
@@ -163,6 +177,20 @@ impl<A: Allocator + Copy> Roll<A> {
         }
     }
 
+    /// The position of the sender with a key. Where one with its number came last is tried at once, since senders come in turns that
+    /// do not stay.
+    #[inline(always)]
+    pub fn position_of_sender(&self, key: SenderKey<'_>) -> Option<usize>
+        ensures { Finds self.now (sender_said key.entry) result }
+    {
+        let guess = guess_of(&self.guesses, Key::Sender(key));
+        if has_sender_guessed(self.entries.as_slice(), guess, key) {
+            Some(guess)
+        } else {
+            self.position_of(Key::Sender(key))
+        }
+    }
+
     /// The position of the stream with a key. That which came last is tried at once, since the ASDUs of a frame are often of one.
     #[inline(always)]
     pub fn position_of_stream(&self, key: StreamKey<'_>) -> Option<usize>
@@ -195,21 +223,21 @@ impl<A: Allocator + Copy> Roll<A> {
         Ok(())
     }
 
-    /// Hands a frame to the sender at a position.
-    pub fn take_frame(&mut self, at: usize, frame: Arrival) -> Told
+    /// Hands a frame to the sender at a position, whose key has this number.
+    pub fn take_frame(&mut self, number: u8, at: usize, frame: Arrival) -> Told
         requires { at < length self.old }
         ensures told { (key : SpecKey) → IsFirstAt self.old key at → result ≡ told_after (sender_of (known_of self.old key)) frame }
         ensures kept { (key : SpecKey) (first : Known) → IsFirstAt self.old key at → self.new ≡ with_progress self.old key first (more_frames frame) }
     {
         self.last = at;
-        let number = number_of(self.entries[at].key());
         self.guesses[number as usize] = at;
         self.entries[at].progress.take_frame(frame)
     }
 
-    /// Hands a sample with this smpSynch to the stream at a position.
+    /// Hands a sample with this smpSynch to the stream at a position, whose key has this number.
     pub fn take_sample(
         &mut self,
+        number: u8,
         at: usize,
         sample: Sample,
         synch: u8,
@@ -220,7 +248,6 @@ impl<A: Allocator + Copy> Roll<A> {
         ensures known { (key : SpecKey) → IsFirstAt self.old key at → IsSome (known_of self.old key) }
     {
         self.last = at;
-        let number = number_of(self.entries[at].key());
         self.guesses[number as usize] = at;
         self.entries[at].progress.take_sample(sample, synch)
     }

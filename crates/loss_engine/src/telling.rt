@@ -3,14 +3,15 @@
 ghost use Rattle.std.specs.Prelude.{◌≡◌, ◌∷◌, [], IfOk, OnErr, length, map, take};
 ghost use Rattle.pdu_core.specs.SampledViews.{asdu_of, asdus_left};
 ghost use Rattle.pdu_core.specs.Views.{pdu_of};
-ghost use Rattle.loss_engine.specs.Sights.{sight_of_asdu, sight_of_goose, sights_of};
+ghost use Rattle.frame_core.specs.computed.FrameReading.{frame_at};
+ghost use Rattle.loss_engine.specs.Sights.{sight_of_asdu, sight_of_goose, sights_of, sights_read};
 ghost use Rattle.loss_engine.specs.computed.Held.{kept_by, periods_by};
 ghost use Rattle.loss_engine.specs.computed.Telling.{TellsAll, TellsSights, WantsAll, WantsFor};
 
 use crate::key::{Key, SenderKey, StreamKey};
 use crate::losses::Losses;
 use crate::texts::told::{put_back, put_frame, put_sample};
-use frame_core::ApduView;
+use frame_core::{ApduView, view_frame};
 use list_core::EventKind;
 use loss_core::Pair;
 use object_core::Heading;
@@ -18,7 +19,8 @@ use pdu_core::{AsduView, GooseView, SvView};
 use repeat_core::{FrameMemory, Nothing};
 use std::alloc::{AllocError, Allocator};
 
-// Appends what a frame of GOOSE tells, and answers whether it is a loss.
+// Appends what a frame of GOOSE tells, and answers whether it is a loss. Inlined, so that of a frame that repeats no view is made.
+#[inline(always)]
 fn put_goose<A: Allocator + Copy>(
     alloc: A,
     losses: &mut Losses<A>,
@@ -99,6 +101,38 @@ fn put_asdus<A: Allocator + Copy>(
     Ok(found)
 }
 
+// Appends what the octets of a frame tell, which are read, and answers whether it is a loss.
+fn put_read<A: Allocator + Copy>(
+    alloc: A,
+    memory: &mut FrameMemory<A, Nothing>,
+    losses: &mut Losses<A>,
+    out: &mut Vec<u8, A>,
+    heading: Heading,
+    octets: &[u8],
+) -> Result<bool, AllocError>
+    ensures tells { IfOk result (λ found. TellsSights heading (periods_by losses.old) (kept_by losses.old) (sights_read {A = Unit {0}} (kept_by losses.old).moment (frame_at octets.now)) out.old.items found out.new.items (kept_by losses.new)) }
+    ensures periods { periods_by losses.new ≡ periods_by losses.old }
+    ensures wants { OnErr result (WantsFor heading (periods_by losses.old) (kept_by losses.old) (sights_read {A = Unit {0}} (kept_by losses.old).moment (frame_at octets.now))) }
+    ensures kept { take (length out.old.items) out.new.items ≡ out.old.items }
+{
+    let Ok(view) = view_frame(octets) else {
+        return Ok(false);
+    };
+    memory.note(octets, &view);
+    match &view.apdu {
+        ApduView::Goose(goose) => put_goose(alloc, losses, out, heading, view.app_id, goose),
+        ApduView::Sampled(sampled) => put_asdus(
+            alloc,
+            losses,
+            out,
+            heading,
+            view.app_id,
+            view.source,
+            sampled,
+        ),
+    }
+}
+
 // Appends what the frame of an event tells, and answers whether it is a loss; nothing of the clock and of modes. Memory is wanted
 // for a sender or a stream that is new, and for what is told.
 fn put_frame_of<A: Allocator + Copy>(
@@ -117,21 +151,14 @@ fn put_frame_of<A: Allocator + Copy>(
     let EventKind::Frame(octets) = kind else {
         return Ok(false);
     };
-    match memory.view(octets.as_slice()) {
-        Err(_) => Ok(false),
-        Ok(view) => match &view.apdu {
-            ApduView::Goose(goose) => put_goose(alloc, losses, out, heading, view.app_id, goose),
-            ApduView::Sampled(sampled) => put_asdus(
-                alloc,
-                losses,
-                out,
-                heading,
-                view.app_id,
-                view.source,
-                sampled,
-            ),
-        },
+    let octets = octets.as_slice();
+    if let Some(again) = memory.alike(octets) {
+        let frame = again.frame(octets);
+        if let ApduView::Goose(goose) = &frame.apdu {
+            return put_goose(alloc, losses, out, heading, frame.app_id, goose);
+        }
     }
+    put_read(alloc, memory, losses, out, heading, octets)
 }
 
 /// Appends what an event tells: that time goes back by so much, where it does, and what its frame tells, which is viewed through a

@@ -76,7 +76,7 @@ pub fn put_back<A: Allocator>(
 }
 
 /// Appends what is told of a frame of a sender, and answers whether that is a loss.
-#[inline]
+#[inline(always)]
 pub fn put_frame<A: Allocator>(
     out: &mut Vec<u8, A>,
     heading: Heading,
