@@ -19,6 +19,7 @@ use crate::numbers::number_at;
 use frame_core::{ApduView, VlanTag, see_frame};
 use pdu_core::GooseView;
 use std::alloc::Allocator;
+use std::cell::Cell;
 
 /// A place for a frame of GOOSE that is held: its octets and what is noted of it, while it is good.
 #[derive(Drop)]
@@ -30,6 +31,8 @@ pub(crate) struct Held<A: Allocator, B: Beside> {
     pub st_num: u32,
     // Whether it was seen to stand in its written form.
     written: bool,
+    // Whether a frame repeated it.
+    repeated: Cell<bool>,
     beside: Option<B>,
     ghost placed: { good ≡ true → IsPlaced (length octets.items) notes },
     ghost known: { good ≡ true → ∥ Stands octets.items notes ∥₁ },
@@ -46,6 +49,7 @@ impl<A: Allocator, B: Beside + Drop> Held<A, B> {
             good: false,
             st_num: 0,
             written: false,
+            repeated: Cell::new(false),
             beside: None,
         }
     }
@@ -72,6 +76,7 @@ impl<A: Allocator, B: Beside + Drop> Held<A, B> {
         ensures repeats { IfSome result (λ again. Repeats B.suits again octets.now) }
     {
         let (live, sq_num) = self.numbers(octets)?;
+        self.repeated.set(true);
         Some(Again {
             notes: &self.notes,
             live,
@@ -98,6 +103,12 @@ impl<A: Allocator, B: Beside + Drop> Held<A, B> {
         self.notes.st_num != st_num || self.octets.len() != size
     }
 
+    /// Whether a frame in this state may follow the one that is held, which was repeated: then it is likely to be repeated too.
+    #[inline(always)]
+    pub fn is_followed_by(&self, st_num: u32) -> bool {
+        self.repeated.get() && self.notes.st_num.wrapping_add(1) == st_num
+    }
+
     /// Holds the frame in these octets, where it is one of GOOSE. Where there is no memory for it, nothing is held. Reads it once more, so that a frame that is read need not be kept for this.
     #[inline(never)]
     pub fn hold(&mut self, octets: &[u8]) {
@@ -120,6 +131,7 @@ impl<A: Allocator, B: Beside + Drop> Held<A, B> {
         requires written { goose.now.written ≡ true → slice_range octets.now (ether_type + 10) end ≡ written_goose (pdu_of {A = Unit {0}} goose.now) }
     {
         self.good = false;
+        self.repeated.set(false);
         self.beside = None;
         self.octets.clear();
         let Ok(notes) = notes_of(octets, ether_type, end, goose) else {

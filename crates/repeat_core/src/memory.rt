@@ -89,8 +89,8 @@ impl<A: Allocator + Copy, B: Beside + Drop> FrameMemory<A, B> {
     }
 
     /// Takes note of the frame that was seen in these octets, which are alike to none that is held: it may be held from now on. It
-    /// is where the one before it at its place had the same stNum: so a new state is held with its first repetition, and frames
-    /// that never repeat are not.
+    /// is where the one before it at its place had the same stNum, or where its stNum is the next one to that of a frame that is held
+    /// and was repeated: so a new state of a sender that repeats is held at once, and frames that never repeat are not.
     #[inline(always)]
     pub fn note(&mut self, octets: &[u8], frame: &FrameView<'_>) {
         let ApduView::Goose(goose) = &frame.apdu else {
@@ -102,6 +102,9 @@ impl<A: Allocator + Copy, B: Beside + Drop> FrameMemory<A, B> {
         };
         if held.st_num != goose.st_num {
             held.st_num = goose.st_num;
+            if held.is_followed_by(goose.st_num) {
+                held.hold(octets);
+            }
         } else if held.has_room(goose.st_num, octets.len()) {
             held.hold(octets);
         }
