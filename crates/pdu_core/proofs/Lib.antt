@@ -19,6 +19,7 @@ pub mod SampledSpelledSpellable
 pub mod SampledSpellableTests
 pub mod WrittenSpelled
 pub mod ShortFields
+pub mod UsualFields
 pub mod Texts
 pub mod ApduSizes
 pub mod GooseSizes

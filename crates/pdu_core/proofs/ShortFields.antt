@@ -97,7 +97,7 @@ module _ (octets : List ℕ) (at end id a b : ℕ) (ordered : at ≤ end) (insid
 -- ---- fields with a stated count of octets
 
 -- an element of few octets
-few_written : (id size : ℕ) (c : List ℕ) → size < 128 → length c ≡ size → written_element id c ≡ id ∷ size ∷ c
+pub few_written : (id size : ℕ) (c : List ℕ) → size < 128 → length c ≡ size → written_element id c ≡ id ∷ size ∷ c
 unfolding written_element
 few_written id size c few counted = rw (short_length-small (length c) (omega (arith, few, counted)), counted) refl
 

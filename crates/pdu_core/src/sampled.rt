@@ -10,6 +10,7 @@ mod owning;
 mod putting;
 pub mod reading;
 pub mod spellable;
+mod usual;
 pub mod view;
 pub mod view_writing;
 pub mod viewing;

@@ -1,6 +1,6 @@
 -- Reading a savPdu from left to right, with the first fault that is met. Laws in both directions tie it to the
 -- spellings and the faults.
-use Rattle.std.specs.Prelude.{◌==◌, ℕ, pos, List, [], ◌∷◌, length, Option, Some, Result, Ok, if◌then◌else◌}
+use Rattle.std.specs.Prelude.{◌==◌, ℕ, pos, List, [], ◌∷◌, drop, length, Option, Some, Result, Ok, if◌then◌else◌}
 use Rattle.ber_core.specs.computed.ContentsReading.{integer_at, natural}
 use Rattle.ber_core.specs.Element.{contents_of}
 use Rattle.ber_core.specs.computed.FieldReading.{Read, ends_at, fields_at, required_at}
@@ -21,6 +21,10 @@ asdu_in k octets h = fields_at item_at asdu_fields [] octets h.contents_from h.c
 -- the values of the ASDU at p, in a region that ends at e, and the place behind it
 unfoldable pub asdu_at : List ℕ → ℕ → ℕ → Result (List (Option Item) × ℕ) Fault
 asdu_at octets p e = required_at 0x30 octets p e >>= λ h. (asdu_in tt octets h >>= λ vs. Ok (vs, h.contents_to))
+
+-- the values of the fields of an ASDU, where those behind its first one, which has this value, fill the region from p to e
+abbrev pub behind_first : Option Item → List ℕ → ℕ → ℕ → Result (List (Option Item)) Fault
+behind_first x octets p e = fields_at item_at (drop 1 asdu_fields) (x ∷ []) octets p e >>= λ y. (ends_at y.1 e >>= λ _. Ok y.0)
 
 -- the values of the ASDUs from p to e
 unfoldable pub asdus_at : List ℕ → ℕ → ℕ → Result (List (List (Option Item))) Fault

@@ -13,16 +13,18 @@ use crate::fields::{text_field, text_if_there};
 use crate::sampled::fields::{
     few_if_there, fixed_field, raw_field, time_if_there, two_octets_if_there,
 };
+use crate::sampled::usual::usual_asdu;
 use crate::sampled::view::AsduView;
 use ber_core::Fault;
 use ber_core::fields::{check_end, required};
 use byteorder::{BigEndian, ByteOrder};
 use mms_data::standing::has_short_length;
 
-/// The ASDU that stands at `at`, in a region that ends at `end`, the place behind it, and where `NOTES` is true, whether it is
-/// known to stand in its written form.
+// The ASDU that stands at `at`, in a region that ends at `end`, the place behind it, and where `NOTES` is true, whether it is
+// known to stand in its written form.
+#[inline(always)]
 #[tactic(auto, unfolding(crate::specs::computed::SampledReading::asdu_at))]
-pub fn asdu<'a, const NOTES: bool>(
+fn asdu<'a, const NOTES: bool>(
     octets: &'a [u8],
     at: usize,
     end: usize,
@@ -63,6 +65,43 @@ pub fn asdu<'a, const NOTES: bool>(
     Ok((view, to, written))
 }
 
+// The place behind the ASDU that stands at `at`, and what is known of its written form. Never inlined, as few ASDUs have other
+// fields than the usual ones.
+#[inline(never)]
+fn judge_any<const NOTES: bool>(
+    octets: &[u8],
+    at: usize,
+    end: usize,
+) -> Result<(usize, bool), Fault>
+    requires ordered { at ≤ end }
+    requires inside { end ≤ length octets.now }
+    ensures found { IfOk result (λ x. (a : Asdu (Unit {0})) × (asdu_at octets.now at end ≡ Ok (asdu_items a, x.0)) × (x.1 ≡ true → slice_range octets.now at x.0 ≡ written_asdu a)) }
+    ensures next { IfOk result (λ x. (at < x.0) × (x.0 ≤ end)) }
+    ensures fault { IfErr result (λ f. asdu_at octets.now at end ≡ Err f) }
+{
+    let (_, next, written) = asdu::<NOTES>(octets, at, end)?;
+    Ok((next, written))
+}
+
+// The same: an ASDU of the usual fields without a call.
+#[inline(always)]
+fn judge_asdu<const NOTES: bool>(
+    octets: &[u8],
+    at: usize,
+    end: usize,
+) -> Result<(usize, bool), Fault>
+    requires ordered { at ≤ end }
+    requires inside { end ≤ length octets.now }
+    ensures found { IfOk result (λ x. (a : Asdu (Unit {0})) × (asdu_at octets.now at end ≡ Ok (asdu_items a, x.0)) × (x.1 ≡ true → slice_range octets.now at x.0 ≡ written_asdu a)) }
+    ensures next { IfOk result (λ x. (at < x.0) × (x.0 ≤ end)) }
+    ensures fault { IfErr result (λ f. asdu_at octets.now at end ≡ Err f) }
+{
+    match usual_asdu(octets, at, end) {
+        Some((_, next)) => Ok((next, NOTES)),
+        None => judge_any::<NOTES>(octets, at, end),
+    }
+}
+
 /// How many ASDUs fill the octets from `at` to `end`, and where `NOTES` is true, whether they are known to stand in their
 /// written form.
 #[inline(always)]
@@ -80,7 +119,7 @@ pub fn check_asdus<const NOTES: bool>(
     let mut written = NOTES;
     let mut place = at;
     'asdus: while place < end {
-        let (_, next, stands) = asdu::<NOTES>(octets, place, end)?;
+        let (next, stands) = judge_asdu::<NOTES>(octets, place, end)?;
         place = next;
         written &= stands;
         count += 1;

@@ -11,9 +11,10 @@ ghost use Rattle.pdu_core.specs.Contents.{text, time, fixed, raw, few, a_text, a
 ghost use Rattle.pdu_core.specs.computed.ContentsReading.{item_at};
 ghost use Rattle.pdu_core.specs.Goose.{text_if};
 ghost use Rattle.pdu_core.specs.Views.{octets_if, IsPartIf};
-ghost use Rattle.pdu_core.specs.computed.SampledReading.{asdu_at};
+ghost use Rattle.pdu_core.specs.computed.SampledReading.{asdu_at, behind_first};
 ghost use Rattle.pdu_core.specs.SampledViews.{asdu_of, AsduIsPart};
 
+use crate::sampled::usual::usual_fields;
 use crate::sampled::view::AsduView;
 use ber_core::fields::{known_required, known_there};
 use byteorder::{BigEndian, ByteOrder};
@@ -154,6 +155,38 @@ fn known_few_if<'a>(
     }
 }
 
+// The view of an ASDU of this svID whose other fields are known to fill the octets from `at` to `end`.
+#[inline(always)]
+fn known_fields<'a>(octets: &'a [u8], at: usize, end: usize, sv_id: &'a [u8]) -> AsduView<'a>
+    requires ordered { at ≤ end }
+    requires inside { end ≤ length octets.now }
+    requires known { IsOk (behind_first (Some (a_text sv_id.now)) octets.now at end) }
+    ensures exact { behind_first (Some (a_text sv_id.now)) octets.now at end ≡ Ok (asdu_items (asdu_of {A = Unit {0}} result)) }
+    ensures parts { IsPart sv_id.entry octets.entry → AsduIsPart result octets.entry }
+{
+    let (dat_set, place) = known_text_if(octets, at, end, 0x81);
+    let (smp_cnt, place) = known_fixed::<2>(octets, place, end, 0x82);
+    let (conf_rev, place) = known_fixed::<4>(octets, place, end, 0x83);
+    let (refr_tm, place) = known_time_if(octets, place, end, 0x84);
+    let (smp_synch, place) = known_fixed::<1>(octets, place, end, 0x85);
+    let (smp_rate, place) = known_two_octets_if(octets, place, end, 0x86);
+    let (sample, place) = known_octets(octets, place, end, 0x87);
+    let (smp_mod, place) = known_few_if(octets, place, end, 0x88);
+    let (field_89, _) = known_few_if(octets, place, end, 0x89);
+    AsduView {
+        sv_id,
+        dat_set,
+        smp_cnt: BigEndian::read_u16(smp_cnt),
+        conf_rev: BigEndian::read_u32(conf_rev),
+        refr_tm,
+        smp_synch: smp_synch[0],
+        smp_rate,
+        sample,
+        smp_mod,
+        field_89,
+    }
+}
+
 /// The ASDU that is known to stand at `at`, in a region that ends at `end`, and the place behind it.
 #[inline(always)]
 #[tactic(auto, unfolding(crate::specs::computed::SampledReading::asdu_at))]
@@ -168,26 +201,8 @@ pub fn known_asdu<'a>(octets: &'a [u8], at: usize, end: usize) -> (AsduView<'a>,
     let header = known_required(octets, at, end, 0x30);
     let to = header.contents_to;
     let (sv_id, place) = known_text(octets, header.contents_from, to, 0x80);
-    let (dat_set, place) = known_text_if(octets, place, to, 0x81);
-    let (smp_cnt, place) = known_fixed::<2>(octets, place, to, 0x82);
-    let (conf_rev, place) = known_fixed::<4>(octets, place, to, 0x83);
-    let (refr_tm, place) = known_time_if(octets, place, to, 0x84);
-    let (smp_synch, place) = known_fixed::<1>(octets, place, to, 0x85);
-    let (smp_rate, place) = known_two_octets_if(octets, place, to, 0x86);
-    let (sample, place) = known_octets(octets, place, to, 0x87);
-    let (smp_mod, place) = known_few_if(octets, place, to, 0x88);
-    let (field_89, _) = known_few_if(octets, place, to, 0x89);
-    let view = AsduView {
-        sv_id,
-        dat_set,
-        smp_cnt: BigEndian::read_u16(smp_cnt),
-        conf_rev: BigEndian::read_u32(conf_rev),
-        refr_tm,
-        smp_synch: smp_synch[0],
-        smp_rate,
-        sample,
-        smp_mod,
-        field_89,
-    };
-    (view, to)
+    match usual_fields(octets, place, to, sv_id) {
+        Some(view) => (view, to),
+        None => (known_fields(octets, place, to, sv_id), to),
+    }
 }
