@@ -2,6 +2,7 @@ pub mod Fronts
 pub mod Afters
 pub mod Cuts
 pub mod PlainTexts
+pub mod Overlays
 pub mod HexPieces
 pub mod PieceLemmas
 pub mod ValueLemmas

@@ -284,7 +284,7 @@ fn is_plain(text: &[u8]) -> bool
 // Whether none of these octets is. It looks at each, also behind one that is, for one sign and for the other apart, so
 // that the compiler compares several octets at once.
 #[inline(always)]
-fn are_plain(octets: &[u8]) -> bool
+pub(crate) fn are_plain(octets: &[u8]) -> bool
     ensures { IsTrue result → flat_map escaped octets.now ≡ octets.now }
 {
     let mut without_marks = true;

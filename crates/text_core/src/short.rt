@@ -1,12 +1,13 @@
 //! A short text, made from its end to its front in an array on the stack and appended as a whole: what stands in it costs no
 //! call and no look at the room of the line.
-ghost use Rattle.std.specs.Prelude.{◌≡◌, ℕ, ◌+◌, ◌*◌, ◌≤◌, List, [], ◌++◌, length, drop};
+ghost use Rattle.std.specs.Prelude.{◌≡◌, ℕ, ◌+◌, ◌-◌, ◌*◌, ◌≤◌, List, [], ◌++◌, length, drop, true};
 ghost use Rattle.std.specs.Fmt.{decimal};
+ghost use Rattle.std.specs.List.{flat_map};
 ghost use Rattle.hex.specs.Hex.{encode_lower};
-ghost use Rattle.text_core.specs.Pieces.{AppendsText, boolean_text, decimal_or_dash, four_digits};
+ghost use Rattle.text_core.specs.Pieces.{AppendsText, boolean_text, decimal_or_dash, escaped, four_digits};
 ghost use Rattle.text_core.specs.ValueText.{time_or_dash, time_text};
 
-use crate::pieces::{BLOCK, block_digits};
+use crate::pieces::{BLOCK, are_plain, block_digits};
 use itoa::write_digits;
 use mms_data::UtcTime;
 use std::alloc::{AllocError, Allocator};
@@ -102,6 +103,59 @@ impl ShortText {
         let mut block = [0; BLOCK];
         block[..octets.len()].copy_from_slice(octets);
         self.put(&block_digits(&block)[..2 * octets.len()]);
+    }
+
+    // Puts `N` octets in front, and then `N` others so far in front of their place that the first `from` of these are not over
+    // them. The compiler copies so many without a call.
+    #[inline(always)]
+    fn put_halves<const N: usize>(&mut self, first: &[u8; N], from: usize, last: &[u8; N])
+        requires order { from ≤ N }
+        requires room { length self.old + N + from ≤ 160 }
+        ensures { self.new ≡ first.now ++ (drop (N - from) last.now ++ self.old) }
+    {
+        let end = self.start;
+        self.start = end - N - from;
+        self.octets[end - N..end].copy_from_slice(last);
+        self.octets[self.start..self.start + N].copy_from_slice(first);
+    }
+
+    // Puts a text of `N` octets to twice as many in front, where it is plain, and answers whether: its last ones and its first
+    // ones, of which some may be the same.
+    #[inline(always)]
+    fn put_short<const N: usize>(&mut self, text: &[u8]) -> bool
+        requires least { N ≤ length text.now }
+        requires most { length text.now ≤ N + N }
+        requires room { length self.old + N + N ≤ 160 }
+        ensures put { result ≡ true → self.new ≡ flat_map escaped text.now ++ self.old }
+        ensures size { length self.new ≤ length self.old + N + N }
+    {
+        let Some((first, _)) = text.split_first_chunk::<N>() else {
+            unreachable!()
+        };
+        let Some((_, last)) = text.split_last_chunk::<N>() else {
+            unreachable!()
+        };
+        if are_plain(first) && are_plain(last) {
+            self.put_halves::<N>(first, text.len() - N, last);
+            return true;
+        }
+        false
+    }
+
+    /// Puts a text of 2 to 32 octets in front, where it is written as it is, and answers whether.
+    #[inline(always)]
+    pub fn put_plain(&mut self, text: &[u8]) -> bool
+        requires { length self.old + 32 ≤ 160 }
+        ensures put { result ≡ true → self.new ≡ flat_map escaped text.now ++ self.old }
+        ensures size { length self.new ≤ length self.old + 32 }
+    {
+        match text.len() {
+            2..=3 => self.put_short::<2>(text),
+            4..=7 => self.put_short::<4>(text),
+            8..=16 => self.put_short::<8>(text),
+            17..=32 => self.put_short::<16>(text),
+            _ => false,
+        }
     }
 
     /// Puts a number in four hexadecimal digits in front.

@@ -187,10 +187,15 @@ fn known_fields<'a>(octets: &'a [u8], at: usize, end: usize, sv_id: &'a [u8]) ->
     }
 }
 
-/// The ASDU that is known to stand at `at`, in a region that ends at `end`, and the place behind it.
+/// The ASDU that is known to stand at `at`, in a region that ends at `end`, and the place behind it. Where `WHOLE` is true, it is
+/// asked first whether it has the usual fields, which is less work where all fields are looked at.
 #[inline(always)]
 #[tactic(auto, unfolding(crate::specs::computed::SampledReading::asdu_at))]
-pub fn known_asdu<'a>(octets: &'a [u8], at: usize, end: usize) -> (AsduView<'a>, usize)
+pub fn known_asdu<'a, const WHOLE: bool>(
+    octets: &'a [u8],
+    at: usize,
+    end: usize,
+) -> (AsduView<'a>, usize)
     requires ordered { at ≤ end }
     requires inside { end ≤ length octets.now }
     requires known { IsOk (asdu_at octets.now at end) }
@@ -201,8 +206,10 @@ pub fn known_asdu<'a>(octets: &'a [u8], at: usize, end: usize) -> (AsduView<'a>,
     let header = known_required(octets, at, end, 0x30);
     let to = header.contents_to;
     let (sv_id, place) = known_text(octets, header.contents_from, to, 0x80);
-    match usual_fields(octets, place, to, sv_id) {
-        Some(view) => (view, to),
-        None => (known_fields(octets, place, to, sv_id), to),
+    if WHOLE {
+        if let Some(view) = usual_fields(octets, place, to, sv_id) {
+            return (view, to);
+        }
     }
+    (known_fields(octets, place, to, sv_id), to)
 }

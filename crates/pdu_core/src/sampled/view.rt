@@ -57,7 +57,7 @@ pub struct SvView<'a> {
 }
 
 impl<'a> Asdus<'a> {
-    ghost use Rattle.std.specs.Prelude.{◌≡◌, ◌<◌, ◌∷◌};
+    ghost use Rattle.std.specs.Prelude.{◌≡◌, ◌<◌, ◌∷◌, [], MatchOption};
     ghost use Rattle.pdu_core.specs.computed.SampledValue.{asdus_in};
     ghost use Rattle.pdu_core.specs.SampledViews.{asdu_of, asdus_left, asdus_source, AsduIsPart};
 
@@ -72,16 +72,29 @@ impl<'a> Asdus<'a> {
         Asdus { octets, at, end }
     }
 
-    // The first ASDU, and those behind it.
+    /// What `next` answers, with less work where all fields are looked at.
     #[inline(always)]
-    fn split(self) -> (AsduView<'a>, Asdus<'a>)
+    pub fn next_whole(&mut self) -> Option<AsduView<'a>>
+        ensures { MatchOption result (asdus_left {A = Unit {0}} self.old ≡ []) (λ v. asdus_left {A = Unit {0}} self.old ≡ asdu_of v ∷ asdus_left self.new) }
+    {
+        if self.at == self.end {
+            return None;
+        }
+        let (view, rest) = self.split::<true>();
+        *self = rest;
+        Some(view)
+    }
+
+    // The first ASDU, and those behind it. What `WHOLE` says is told by `known_asdu`.
+    #[inline(always)]
+    fn split<const WHOLE: bool>(self) -> (AsduView<'a>, Asdus<'a>)
         requires { self.at < self.end }
         ensures first { asdus_left {A = Unit {0}} self.entry ≡ asdu_of result.0 ∷ asdus_left result.1 }
         ensures part { AsduIsPart result.0 (asdus_source self.entry) }
         ensures source { asdus_source result.1 ≡ asdus_source self.entry }
     {
         let (octets, end) = (self.octets, self.end);
-        let (view, at) = known_asdu(octets, self.at, end);
+        let (view, at) = known_asdu::<WHOLE>(octets, self.at, end);
         (view, Asdus { octets, at, end })
     }
 }
@@ -101,7 +114,7 @@ impl<'a> Iterator for Asdus<'a> {
         if self.at == self.end {
             return None;
         }
-        let (view, rest) = self.split();
+        let (view, rest) = self.split::<false>();
         *self = rest;
         Some(view)
     }
