@@ -29,7 +29,8 @@ two_front [] some = absurd (omega arith)
 two_front (x ∷ []) some = absurd (omega arith)
 two_front (x ∷ y ∷ more) some = refl
 
-module _ (octets : List ℕ) (at end id size : ℕ) (rest : List ℕ) (ordered : at ≤ end) (inside : end ≤ length octets) (low : IsIdentifier id) (few : size < 128) (fits : size ≤ length rest) (parts : slice_range octets at end ≡ id ∷ size ∷ rest) where
+module _ (octets : List ℕ) (at end id size : ℕ) (rest : List ℕ) (ordered : at ≤ end) (inside : end ≤ length octets) (low : IsIdentifier id) (few : size < 128) (fits : size ≤ length rest)
+    (parts : slice_range octets at end ≡ id ∷ size ∷ rest) where
   pub short_required : required_at id octets at end ≡ Ok (record { at = at; identifier = id; contents_from = at + 2; contents_to = at + 2 + size })
   unfolding required_at there_at header_at length_at
   short_required = rw (parts, eq-eqb id id refl, ne_eqb _ 31 low, lt-ltb size 128 few, le-ltb (length rest) size fits) refl
@@ -73,7 +74,8 @@ module _ (octets : List ℕ) (at end m n g : ℕ) (sample : List ℕ) (ordered :
 
 -- ---- the ASDU
 
-pub asdu_read : (octets : List ℕ) (at end place : ℕ) (h : Header) (x : Option Item) (items : List (Option Item)) → required_at 0x30 octets at end ≡ Ok h → field_as item_at 0x80 text always octets h.contents_from h.contents_to ≡ Ok (x, place)
+pub asdu_read : (octets : List ℕ) (at end place : ℕ) (h : Header) (x : Option Item) (items : List (Option Item)) → required_at 0x30 octets at end ≡ Ok h
+    → field_as item_at 0x80 text always octets h.contents_from h.contents_to ≡ Ok (x, place)
     → behind_first x octets place h.contents_to ≡ Ok items → asdu_at octets at end ≡ Ok (items, h.contents_to)
 unfolding asdu_at
 asdu_read octets at end place h x items is first rest = rw (is, first, rest) refl

@@ -1,5 +1,5 @@
 //! The small texts of which lines are made. Each call appends to `out`.
-ghost use Rattle.std.specs.Prelude.{◌≡◌, ◌<◌, ◌≤◌, ◌+◌, ◌/◌, ◌%◌, ◌-◌, ◌∷◌, [], ◌++◌, drop, length, take, vec_capacity, vec_len, IsOk, IsTrue};
+ghost use Rattle.std.specs.Prelude.{◌≡◌, ◌<◌, ◌≤◌, ◌+◌, ◌*◌, ◌/◌, ◌%◌, ◌-◌, ◌∷◌, [], ◌++◌, drop, length, take, vec_capacity, vec_len, IfOk, IsOk, IsTrue};
 ghost use Rattle.std.specs.List.{flat_map};
 ghost use Rattle.std.specs.Fmt.{decimal, signed_decimal};
 ghost use Rattle.hex.specs.Hex.{encode_lower};
@@ -91,22 +91,25 @@ pub fn put_signed<A: Allocator>(out: &mut Vec<u8, A>, integer: i64) -> Result<()
     put_front(out, reached(&digits, start - 1), REACH + 1 - start)
 }
 
-/// How many octets are written at once.
+/// How many octets of few are written at once, and how many digits they have.
 pub(crate) const BLOCK: usize = 32;
+
+pub(crate) const DIGITS: usize = 64;
 
 // The digits of so many octets, which the compiler makes all at once: first those of all high halves and of all low ones.
 #[inline(always)]
-pub(crate) fn block_digits(octets: &[u8; BLOCK]) -> [u8; 2 * BLOCK]
+pub(crate) fn block_digits<const N: usize, const M: usize>(octets: &[u8; N]) -> [u8; M]
+    requires { M ≡ 2 * N }
     ensures { result ≡ encode_lower octets.now }
 {
-    let mut high = [0; BLOCK];
-    let mut low = [0; BLOCK];
-    for at in 0..BLOCK {
+    let mut high = [0; N];
+    let mut low = [0; N];
+    for at in 0..N {
         high[at] = hexadecimal_digit(octets[at] / 16);
         low[at] = hexadecimal_digit(octets[at] % 16);
     }
-    let mut digits = [0; 2 * BLOCK];
-    for at in 0..BLOCK {
+    let mut digits = [0; M];
+    for at in 0..N {
         digits[2 * at] = high[at];
         digits[2 * at + 1] = low[at];
     }
@@ -124,7 +127,28 @@ pub fn put_short_hexadecimal<A: Allocator>(
 {
     let mut block = [0; BLOCK];
     block[..octets.len()].copy_from_slice(octets);
-    out.extend_from_slice(&block_digits(&block)[..2 * octets.len()])
+    out.extend_from_slice(&block_digits::<BLOCK, DIGITS>(&block)[..2 * octets.len()])
+}
+
+// Appends the digits of octets, so many at a time, and answers the last octets, which are fewer.
+#[inline(always)]
+fn put_blocks<'a, const N: usize, const M: usize, A: Allocator>(
+    out: &mut Vec<u8, A>,
+    octets: &'a [u8],
+) -> Result<&'a [u8], AllocError>
+    requires some { 0 < N }
+    requires twice { M ≡ 2 * N }
+    requires few { M ≤ 128 }
+    ensures kept { take (length out.old.items) out.new.items ≡ out.old.items }
+    ensures so_far { IfOk result (λ rest. out.new.items ++ encode_lower rest.now ≡ out.old.items ++ encode_lower octets.now) }
+    ensures few { IfOk result (λ rest. length rest.now < N) }
+{
+    let mut others = octets;
+    'blocks: while let Some((block, rest)) = others.split_first_chunk::<N>() {
+        out.extend_from_slice(&block_digits::<N, M>(block))?;
+        others = rest;
+    }
+    Ok(others)
 }
 
 /// Appends octets in lower case hexadecimal. Two octets, as smpMod has, are written as a count that is known.
@@ -134,11 +158,8 @@ pub fn put_hexadecimal<A: Allocator>(out: &mut Vec<u8, A>, octets: &[u8]) -> Res
     if let [first, last] = octets {
         return put_short_hexadecimal(out, &[*first, *last]);
     }
-    let mut others = octets;
-    'blocks: while let Some((block, rest)) = others.split_first_chunk::<BLOCK>() {
-        out.extend_from_slice(&block_digits(block))?;
-        others = rest;
-    }
+    let others = put_blocks::<64, 128, A>(out, octets)?;
+    let others = put_blocks::<BLOCK, DIGITS, A>(out, others)?;
     if others.is_empty() {
         return Ok(());
     }

@@ -7,7 +7,7 @@ ghost use Rattle.hex.specs.Hex.{encode_lower};
 ghost use Rattle.text_core.specs.Pieces.{AppendsText, boolean_text, decimal_or_dash, escaped, four_digits};
 ghost use Rattle.text_core.specs.ValueText.{time_or_dash, time_text};
 
-use crate::pieces::{BLOCK, are_plain, block_digits};
+use crate::pieces::{BLOCK, DIGITS, are_plain, block_digits};
 use itoa::write_digits;
 use mms_data::UtcTime;
 use std::alloc::{AllocError, Allocator};
@@ -41,6 +41,14 @@ impl ShortText {
             octets: [0; ROOM],
             start: ROOM,
         }
+    }
+
+    /// Takes out all octets, so that the text is one of none again, in the same memory.
+    #[inline(always)]
+    pub fn clear(&mut self)
+        ensures { self.new ≡ [] }
+    {
+        self.start = ROOM;
     }
 
     /// Puts octets in front.
@@ -102,7 +110,7 @@ impl ShortText {
     {
         let mut block = [0; BLOCK];
         block[..octets.len()].copy_from_slice(octets);
-        self.put(&block_digits(&block)[..2 * octets.len()]);
+        self.put(&block_digits::<BLOCK, DIGITS>(&block)[..2 * octets.len()]);
     }
 
     // Puts `N` octets in front, and then `N` others so far in front of their place that the first `from` of these are not over

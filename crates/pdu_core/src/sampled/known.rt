@@ -1,7 +1,7 @@
 //! ASDUs that were judged, seen again where they stand. No octet is judged twice: what would be at fault is ruled out by proof,
 //! and no reading of a field has an effect, so the compiler keeps that of those fields alone which a caller looks at.
 
-ghost use Rattle.std.specs.Prelude.{◌≡◌, ◌<◌, ◌≤◌, length, IsOk, Ok, Some};
+ghost use Rattle.std.specs.Prelude.{◌≡◌, ◌<◌, ◌≤◌, length, IfSome, IsOk, Ok, Some};
 ghost use Rattle.byteorder.specs.Endian.{big_number};
 ghost use Rattle.ber_core.specs.computed.FieldReading.{field_as};
 ghost use Rattle.ber_core.specs.Fields.{always, optional};
@@ -187,15 +187,10 @@ fn known_fields<'a>(octets: &'a [u8], at: usize, end: usize, sv_id: &'a [u8]) ->
     }
 }
 
-/// The ASDU that is known to stand at `at`, in a region that ends at `end`, and the place behind it. Where `WHOLE` is true, it is
-/// asked first whether it has the usual fields, which is less work where all fields are looked at.
+/// The ASDU that is known to stand at `at`, in a region that ends at `end`, and the place behind it.
 #[inline(always)]
 #[tactic(auto, unfolding(crate::specs::computed::SampledReading::asdu_at))]
-pub fn known_asdu<'a, const WHOLE: bool>(
-    octets: &'a [u8],
-    at: usize,
-    end: usize,
-) -> (AsduView<'a>, usize)
+pub fn known_asdu<'a>(octets: &'a [u8], at: usize, end: usize) -> (AsduView<'a>, usize)
     requires ordered { at ≤ end }
     requires inside { end ≤ length octets.now }
     requires known { IsOk (asdu_at octets.now at end) }
@@ -206,10 +201,21 @@ pub fn known_asdu<'a, const WHOLE: bool>(
     let header = known_required(octets, at, end, 0x30);
     let to = header.contents_to;
     let (sv_id, place) = known_text(octets, header.contents_from, to, 0x80);
-    if WHOLE {
-        if let Some(view) = usual_fields(octets, place, to, sv_id) {
-            return (view, to);
-        }
-    }
     (known_fields(octets, place, to, sv_id), to)
+}
+
+/// The same, where the ASDU has the usual fields.
+#[inline(always)]
+#[tactic(auto, unfolding(crate::specs::computed::SampledReading::asdu_at))]
+pub fn known_usual<'a>(octets: &'a [u8], at: usize, end: usize) -> Option<(AsduView<'a>, usize)>
+    requires ordered { at ≤ end }
+    requires inside { end ≤ length octets.now }
+    requires known { IsOk (asdu_at octets.now at end) }
+    ensures exact { IfSome result (λ x. asdu_at octets.now at end ≡ Ok (asdu_items (asdu_of {A = Unit {0}} x.0), x.1)) }
+    ensures next { IfSome result (λ x. (at < x.1) × (x.1 ≤ end)) }
+{
+    let header = known_required(octets, at, end, 0x30);
+    let to = header.contents_to;
+    let (sv_id, place) = known_text(octets, header.contents_from, to, 0x80);
+    Some((usual_fields(octets, place, to, sv_id)?, to))
 }

@@ -3,7 +3,7 @@
 ghost use Rattle.std.specs.Prelude.{◌≡◌, ◌≤◌, length};
 ghost use Rattle.pdu_core.specs.computed.SampledValue.{asdus_in, AreAsdus};
 
-use crate::sampled::known::known_asdu;
+use crate::sampled::known::{known_asdu, known_usual};
 use mms_data::UtcTime;
 
 /// An ASDU of Sampled Values (IEC 61850-9-2) where it stands: the fields of `Asdu`, texts and octets as parts of
@@ -57,7 +57,7 @@ pub struct SvView<'a> {
 }
 
 impl<'a> Asdus<'a> {
-    ghost use Rattle.std.specs.Prelude.{◌≡◌, ◌<◌, ◌∷◌, [], MatchOption};
+    ghost use Rattle.std.specs.Prelude.{◌≡◌, ◌<◌, ◌∷◌, IfSome};
     ghost use Rattle.pdu_core.specs.computed.SampledValue.{asdus_in};
     ghost use Rattle.pdu_core.specs.SampledViews.{asdu_of, asdus_left, asdus_source, AsduIsPart};
 
@@ -72,29 +72,30 @@ impl<'a> Asdus<'a> {
         Asdus { octets, at, end }
     }
 
-    /// What `next` answers, with less work where all fields are looked at.
+    /// The first ASDU and those behind it, where it has the usual fields alone, each length in one octet, as ASDUs nearly always
+    /// have: its view is then put together without a look at others.
     #[inline(always)]
-    pub fn next_whole(&mut self) -> Option<AsduView<'a>>
-        ensures { MatchOption result (asdus_left {A = Unit {0}} self.old ≡ []) (λ v. asdus_left {A = Unit {0}} self.old ≡ asdu_of v ∷ asdus_left self.new) }
+    pub fn first_usual(self) -> Option<(AsduView<'a>, Asdus<'a>)>
+        ensures { IfSome result (λ x. asdus_left {A = Unit {0}} self.entry ≡ asdu_of x.0 ∷ asdus_left x.1) }
     {
-        if self.at == self.end {
+        let (octets, end) = (self.octets, self.end);
+        if self.at == end {
             return None;
         }
-        let (view, rest) = self.split::<true>();
-        *self = rest;
-        Some(view)
+        let (view, at) = known_usual(octets, self.at, end)?;
+        Some((view, Asdus { octets, at, end }))
     }
 
-    // The first ASDU, and those behind it. What `WHOLE` says is told by `known_asdu`.
+    // The first ASDU, and those behind it.
     #[inline(always)]
-    fn split<const WHOLE: bool>(self) -> (AsduView<'a>, Asdus<'a>)
+    fn split(self) -> (AsduView<'a>, Asdus<'a>)
         requires { self.at < self.end }
         ensures first { asdus_left {A = Unit {0}} self.entry ≡ asdu_of result.0 ∷ asdus_left result.1 }
         ensures part { AsduIsPart result.0 (asdus_source self.entry) }
         ensures source { asdus_source result.1 ≡ asdus_source self.entry }
     {
         let (octets, end) = (self.octets, self.end);
-        let (view, at) = known_asdu::<WHOLE>(octets, self.at, end);
+        let (view, at) = known_asdu(octets, self.at, end);
         (view, Asdus { octets, at, end })
     }
 }
@@ -114,7 +115,7 @@ impl<'a> Iterator for Asdus<'a> {
         if self.at == self.end {
             return None;
         }
-        let (view, rest) = self.split::<false>();
+        let (view, rest) = self.split();
         *self = rest;
         Some(view)
     }

@@ -4,9 +4,9 @@ use Rattle.hex.proofs.Pairs.{encode_step, encode_done}
 use Rattle.text_core.proofs.pieces.block_digits.Goals as goal
 
 pub loop-at-2-preserved : goal.loop-at-2-preserved
-loop-at-2-preserved c =
+loop-at-2-preserved g c =
     let at = c.loop-at-2.at in
-    let size = c.fits-octets in
+    let size = c.told-octets in
     record {
       sized = search rules;
       within = search rules;
@@ -15,6 +15,6 @@ loop-at-2-preserved c =
     }
 
 pub returns : goal.returns
-returns c =
-    let size = c.fits-octets in
+returns g c =
+    let size = c.told-octets in
     encode_done lower_digits c.args.octets.now c.loop-at-2.digits c.loop-at-2.at (omega arith) (omega (arith, c.loop-at-2.invariant.sized)) c.loop-at-2.invariant.written

@@ -25,4 +25,5 @@ returns-in_ok-usual_fields-in-Ok-clause-written c =
     let o = c.args.octets.now in
     let place = c.in_ok-sv_id.ensures in
     let named = sym place.contents ∙ sym (ap (λ (b : Bor (List ℕ)). b.now) c.in_ok-usual_fields-in-Ok.ensures.named) in
-    c.in_ok-to.ensures.written ∙ ap (written_element 0x30) (join o (c.args.at + 2) c.in_ok-sv_id.place c.in_ok-to.to (omega (arith, place.next)) (omega (arith, place.next)) (place.written ∙ ap (written_element 0x80) named) c.in_ok-usual_fields-in-Ok.ensures.written)
+    c.in_ok-to.ensures.written
+    ∙ ap (written_element 0x30) (join o (c.args.at + 2) c.in_ok-sv_id.place c.in_ok-to.to (omega (arith, place.next)) (omega (arith, place.next)) (place.written ∙ ap (written_element 0x80) named) c.in_ok-usual_fields-in-Ok.ensures.written)

@@ -1,6 +1,5 @@
-use Rattle.std.proofs.Common.{◌≡◌, ℕ, ◌+◌, ◌^◌, ◌≤◌, ◌<◌, List, [], ◌++◌, length, refl, sym, ap, ◌∙◌, arith, rules}
+use Rattle.std.proofs.Common.{◌≡◌, ◌+◌, length, refl, sym, ap, ◌∙◌, arith, rules}
 use Rattle.std.specs.Prelude.{Some, slice_range}
-use Rattle.byteorder.specs.Endian.{big_number}
 use Rattle.ber_core.specs.Length.{AreOctets}
 use Rattle.ber_core.specs.Written.{written_element}
 use Rattle.ber_core.proofs.Regions.{region-length}
@@ -24,9 +23,15 @@ returns-clause-written c =
     let synch = c.in_ok-smp_synch in
     let last = c.in_ok-sample.ensures in
     let to = c.in_ok-sample.to in
-    join o at (at + 4) end (omega arith) (omega (arith, rev.ensures.next)) (fixed_stands o at end 0x82 2 cnt.smp_cnt.now c.read_u16.result c.requires.ordered inside (one_octet 0x82 refl) (omega arith) cnt.ensures.size (sym c.read_u16.ensures) cnt.ensures.next cnt.ensures.there (at + 4) (omega arith) small)
-    (join o (at + 4) (at + 10) end (omega arith) (omega (arith, synch.ensures.next)) (fixed_stands o (at + 4) end 0x83 4 rev.conf_rev.now c.read_u32.result (omega (arith, cnt.ensures.next)) inside (one_octet 0x83 refl) (omega arith) rev.ensures.size (sym c.read_u32.ensures) rev.ensures.next rev.ensures.there (at + 10) (omega arith) small)
-    (join o (at + 10) (at + 13) end (omega arith) (omega (arith, synch.ensures.next)) (fixed_stands o (at + 10) end 0x85 1 synch.smp_synch.now _ (omega (arith, rev.ensures.next)) inside (one_octet 0x85 refl) (omega arith) synch.ensures.size (one_number synch.smp_synch.now synch.ensures.size) synch.ensures.next synch.ensures.there (at + 13) (omega arith) small)
+    let one = fixed_stands o at end 0x82 2 cnt.smp_cnt.now c.read_u16.result c.requires.ordered inside (one_octet 0x82 refl) (omega arith) cnt.ensures.size (sym c.read_u16.ensures)
+    cnt.ensures.next cnt.ensures.there (at + 4) (omega arith) small in
+    let two = fixed_stands o (at + 4) end 0x83 4 rev.conf_rev.now c.read_u32.result (omega (arith, cnt.ensures.next)) inside (one_octet 0x83 refl) (omega arith) rev.ensures.size (sym c.read_u32.ensures)
+    rev.ensures.next rev.ensures.there (at + 10) (omega arith) small in
+    let three = fixed_stands o (at + 10) end 0x85 1 synch.smp_synch.now _ (omega (arith, rev.ensures.next)) inside (one_octet 0x85 refl) (omega arith) synch.ensures.size
+    (one_number synch.smp_synch.now synch.ensures.size) synch.ensures.next synch.ensures.there (at + 13) (omega arith) small in
+    join o at (at + 4) end (omega arith) (omega (arith, rev.ensures.next)) one
+    (join o (at + 4) (at + 10) end (omega arith) (omega (arith, synch.ensures.next)) two
+    (join o (at + 10) (at + 13) end (omega arith) (omega (arith, synch.ensures.next)) three
     (join o (at + 13) to end (omega (arith, last.next)) (omega (arith, last.next)) (last.written ∙ ap (written_element 0x87) (sym last.contents)) (nothing o to end (omega (arith, c.if-to-end.false))))))
 
 pub returns-clause-exact : goal.returns-clause-exact

@@ -9,4 +9,5 @@ returns g c =
     let view : length (drop c.self.inside.start c.self.inside.octets) ≡ length c.args.self.now = ap length c.self.view_is in
     let kept = c.self.invariant in
     rw (c.copy_from_slice-2.ensures.after, c.copy_from_slice.ensures.after)
-    (overlaid c.self.inside.octets c.args.first.now c.args.last.now c.args.self.now g.row.N c.args.from c.self.inside.start c.requires.order (omega (arith, held, view, kept, c.requires.room)) (omega (arith, kept)) c.told-first c.told-last c.self.view_is)
+    (overlaid c.self.inside.octets c.args.first.now c.args.last.now c.args.self.now g.row.N c.args.from c.self.inside.start c.requires.order
+    (omega (arith, held, view, kept, c.requires.room)) (omega (arith, kept)) c.told-first c.told-last c.self.view_is)

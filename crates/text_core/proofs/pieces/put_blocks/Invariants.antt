@@ -1,6 +1,6 @@
-use Rattle.std.proofs.Common.{◌≡◌, ◌++◌, length, take}
+use Rattle.std.proofs.Common.{◌≡◌, ◌<◌, ◌++◌, length, take}
 use Rattle.hex.specs.Hex.{encode_lower}
-use Rattle.text_core.proofs.pieces.put_hexadecimal.Given as goal
+use Rattle.text_core.proofs.pieces.put_blocks.Given as goal
 
 abbrev pub invariant-blocks-2 : goal.invariant-blocks-2
 invariant-blocks-2 g l = record {
