@@ -11,6 +11,7 @@ pub mod ObjectTexts
 pub mod GooseFields
 pub mod AsduFields
 pub mod AsduLoops
+pub mod SpacedAsdus
 pub mod ShortTexts
 pub mod FrameObjects
 pub mod SettledTexts

@@ -10,7 +10,7 @@ pub data Fronts : List ℕ → List (List ℕ) → Type 0 where
   front : {text behind : List ℕ} {xs : List (List ℕ)} (x : List ℕ) → text ≡ x ++ behind → Fronts behind xs → Fronts text (x ∷ xs)
   field : {text valued behind : List ℕ} {xs : List (List ℕ)} (name value : List ℕ) → text ≡ name ++ valued → valued ≡ value ++ behind → Fronts behind xs → Fronts text ((name ++ value) ∷ xs)
 
-fronts_text : {text : List ℕ} {xs : List (List ℕ)} → Fronts text xs → text ≡ concat xs
+pub fronts_text : {text : List ℕ} {xs : List (List ℕ)} → Fronts text xs → text ≡ concat xs
 fronts_text (none p) = p
 fronts_text (front x p q) = before x p (fronts_text q)
 fronts_text (field {xs = xs} name value p q r) = before name p (before value q (fronts_text r)) ∙ sym (append_assoc name value (concat xs))

@@ -28,6 +28,10 @@ asdu_parts a =
 abbrev pub asdu_text : {A : Type 0} → Asdu A → List ℕ
 asdu_text a = concat (asdu_parts a)
 
+-- the text of one thing before a space
+abbrev pub before_space : {X : Type 0} → (X → List ℕ) → X → List ℕ
+before_space text x = text x ++ 32 ∷ []
+
 -- the ASDUs stand in { }, divided by one space
 abbrev pub sv_text : {A : Type 0} → SvPdu A → List ℕ
 sv_text p = 32 ∷ 123 ∷ spaced asdu_text p.asdus ++ 125 ∷ []

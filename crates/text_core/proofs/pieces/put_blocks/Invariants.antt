@@ -1,4 +1,4 @@
-use Rattle.std.proofs.Common.{◌≡◌, ◌<◌, ◌++◌, length, take}
+use Rattle.std.proofs.Common.{◌≡◌, ◌++◌, length, take}
 use Rattle.hex.specs.Hex.{encode_lower}
 use Rattle.text_core.proofs.pieces.put_blocks.Given as goal
 

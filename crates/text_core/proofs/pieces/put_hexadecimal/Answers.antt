@@ -1,4 +1,4 @@
-use Rattle.std.proofs.Common.{arith, length, take, ◌≡◌, ◌∙◌}
+use Rattle.std.proofs.Common.{arith, length, ◌≡◌, ◌∙◌}
 use Rattle.std.proofs.lemmas.Bool.Decides.{nat_tests}
 use Rattle.text_core.proofs.Fronts.{front_twice, rest_appended}
 use Rattle.text_core.proofs.HexPieces.{all_written}
