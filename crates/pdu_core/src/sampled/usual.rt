@@ -13,7 +13,6 @@ ghost use Rattle.pdu_core.specs.SampledWritten.{written_asdu};
 ghost use Rattle.pdu_core.specs.Written.{written_fields};
 ghost use Rattle.pdu_core.specs.computed.SampledReading.{asdu_at, behind_first};
 
-use crate::fields::contents_there;
 use crate::sampled::view::AsduView;
 use ber_core::contents::check_visible;
 use byteorder::{BigEndian, ByteOrder};
@@ -45,6 +44,17 @@ fn short_element<'a>(
     }
 }
 
+// The octets from `at` to `end`.
+#[inline(always)]
+fn part<'a>(octets: &'a [u8], at: usize, end: usize) -> &'a [u8]
+    requires ordered { at ≤ end }
+    requires inside { end ≤ length octets.now }
+    ensures contents { result.now ≡ slice_range octets.now at end }
+    ensures part { IsPart result octets.entry }
+{
+    &octets[at..end]
+}
+
 /// The view of an ASDU of this svID whose other fields fill the octets from `at` to `end`, where they are the usual ones.
 #[inline(always)]
 pub fn usual_fields<'a>(
@@ -60,22 +70,28 @@ pub fn usual_fields<'a>(
     ensures parts { IfSome result (λ v. IsPart sv_id.entry octets.entry → AsduIsPart v octets.entry) }
     ensures written { IfSome result (λ v. slice_range octets.now at end ≡ written_fields (drop 1 asdu_fields) (drop 1 (asdu_items (asdu_of {A = Unit {0}} v)))) }
 {
-    let smp_cnt = contents_there::<2>(octets, at, end, 0x82)?;
-    let conf_rev = contents_there::<4>(octets, at + 4, end, 0x83)?;
-    let smp_synch = contents_there::<1>(octets, at + 10, end, 0x85)?;
-    let (sample, to) = short_element(octets, at + 13, end, 0x87)?;
-    if to < end {
+    let Some((numbers, rest)) = octets[at..end].split_first_chunk::<15>() else {
+        return None;
+    };
+    // An identifier and a length are compared at once.
+    let smp_cnt = BigEndian::read_u16(&numbers[..2]);
+    let conf_rev = BigEndian::read_u16(&numbers[4..6]);
+    let smp_synch = BigEndian::read_u16(&numbers[10..12]);
+    if smp_cnt != 0x8202 || conf_rev != 0x8304 || smp_synch != 0x8501 || numbers[13] != 0x87 {
+        return None;
+    }
+    if 0x80 <= numbers[14] || numbers[14] as usize != rest.len() {
         return None;
     }
     Some(AsduView {
         sv_id,
         dat_set: None,
-        smp_cnt: BigEndian::read_u16(smp_cnt),
-        conf_rev: BigEndian::read_u32(conf_rev),
+        smp_cnt: BigEndian::read_u16(&numbers[2..4]),
+        conf_rev: BigEndian::read_u32(&numbers[6..10]),
         refr_tm: None,
-        smp_synch: smp_synch[0],
+        smp_synch: numbers[12],
         smp_rate: None,
-        sample,
+        sample: part(octets, at + 15, end),
         smp_mod: None,
         field_89: None,
     })
