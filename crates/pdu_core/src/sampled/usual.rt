@@ -110,8 +110,10 @@ pub fn usual_asdu<'a>(octets: &'a [u8], at: usize, end: usize) -> Option<(AsduVi
     let (_, to) = short_element(octets, at, end, 0x30)?;
     let from = at + 2;
     let (sv_id, place) = short_element(octets, from, to, 0x80)?;
+    // Last, since an ASDU of other fields is judged again.
+    let view = usual_fields(octets, place, to, sv_id)?;
     match check_visible(sv_id, from + 2) {
-        Ok(()) => Some((usual_fields(octets, place, to, sv_id)?, to)),
+        Ok(()) => Some((view, to)),
         Err(_) => None,
     }
 }
