@@ -72,11 +72,10 @@ with_spelled m request None rest one w = w
 with_spelled m request (Some f) rest one w = (one f refl, w)
 
 sent_spelled : {A : Type 0} (m : ℕ) (calls : List Call) (answers : List (Option (Frame A))) → ((i : ℕ) (f : Frame A) → slice_get answers i ≡ Some (Some f) → IsSpelled f) → AreSpelled (sent_from m calls answers)
-sent_spelled m [] answers each = tt
-sent_spelled m (c ∷ cs) [] each = tt
 sent_spelled {A} m (c ∷ cs) (a ∷ answers) each =
     with_spelled (max m c.moment) c.request a (sent_from (max m c.moment) cs answers) (λ f e. each 0 f (ap (λ (o : Option (Frame A)). Some o) e))
     (sent_spelled (max m c.moment) cs answers (λ i f e. each (suc i) f e))
+sent_spelled _ _ _ _ = tt
 
 -- each accepted change has the control's count of values
 

@@ -15,7 +15,7 @@ use Rattle.block_core.specs.declared.block.Block.{Block}
 use Rattle.subscribe_core.specs.declared.entry.Reason.{Reason}
 use Rattle.subscribe_core.specs.declared.registers.Facts.{Facts}
 use Rattle.subscribe_core.specs.Matching.{facts_of_frame, is_of, reason_of, facts_unless_refused}
-use Rattle.subscribe_core.specs.EventsRead.{AreRead, Content, FrameRead, IsContent, IsRead, OfClock, OfFault, OfGoose, OfMode, OfSampled, EventRead}
+use Rattle.subscribe_core.specs.EventsRead.{AreRead, Content, FrameRead, IsContent, IsRead, OfGoose, OfSampled, EventRead}
 use Rattle.subscribe_core.specs.Sight.{facts_at, facts_of, trace_of_block}
 use Rattle.subscribe_core.specs.Simulation.{is_other_kind, mode_at, takes_simulated}
 use Rattle.subscribe_core.proofs.Readings.{read_one}
@@ -75,10 +75,7 @@ plain_spelled {A} f q o is s = record {
 
 pdu_or : GoosePdu (Unit {0}) → Content → GoosePdu (Unit {0})
 pdu_or p (OfGoose x) = x.pdu
-pdu_or p OfSampled = p
-pdu_or p (OfFault fault) = p
-pdu_or p OfClock = p
-pdu_or p (OfMode on) = p
+pdu_or p _ = p
 
 pub same_pdu : (x y : FrameRead) → OfGoose x ≡ OfGoose y → x.pdu ≡ y.pdu
 unfolding pdu_or
@@ -95,10 +92,7 @@ pdu_read {A} {B} e r x o f q read goose kind s unit = same_pdu x y (sym goose �
     other = record { moment = e.moment; content = OfGoose y }
 
     told : IsRead e other
-    told = record {
-      moment = refl;
-      content = subst (λ (k : EventKind B). IsContent k (OfGoose y)) (sym kind) (plain_frame f q, plain_spelled f q o unit s, refl, refl);
-    }
+    told = record { moment = refl; content = subst (λ (k : EventKind B). IsContent k (OfGoose y)) (sym kind) (plain_frame f q, plain_spelled f q o unit s, refl, refl) }
 
     same : r ≡ other
     same = read_one e r read ∙ sym (read_one e other told)
@@ -106,15 +100,13 @@ pdu_read {A} {B} e r x o f q read goose kind s unit = same_pdu x y (sym goose �
 -- a reading in its place is that of an event
 pub read_at : {A : Type 0} (events : List (Event A)) (readings : List EventRead) (i : ℕ) (r : EventRead) → AreRead events readings → slice_get readings i ≡ Some r → (e : Event A) × (slice_get events i ≡ Some e) × IsRead e r
 read_at [] [] i r are at = absurd (none-some r at)
-read_at [] (x ∷ rs) i r are at = absurd are
-read_at (e ∷ es) [] i r are at = absurd are
 read_at (e ∷ es) (x ∷ rs) zero r are at = (e, refl, subst (λ (y : EventRead). IsRead e y) (same_Some x r at) are.0)
 read_at (e ∷ es) (x ∷ rs) (suc i) r are at = read_at es rs i r are.1 at
+read_at _ _ _ _ are _ = absurd are
 
 pub goose_octets : {A : Type 0} (k : EventKind A) (x : FrameRead) → IsContent k (OfGoose x) → (o : List ℕ) × (k ≡ kinds.Frame o)
 goose_octets (kinds.Frame o) x w = (o, refl)
-goose_octets kinds.Clock x w = absurd w
-goose_octets (kinds.Mode on) x w = absurd w
+goose_octets _ _ w = absurd w
 
 -- a good position is that of a frame of GOOSE, and has its facts
 
@@ -128,10 +120,7 @@ frame_facts block mode taken x f e = go (is_of x block) (reason_of (is_other_kin
 
 content_good : {A : Type 0} (block : Block A) (mode taken : Bool) (k : Content) (f : Facts) → facts_of block mode taken k ≡ Some f → (x : FrameRead) × (k ≡ OfGoose x)
 content_good block mode taken (OfGoose x) f e = (x, refl)
-content_good block mode taken OfSampled f e = absurd (none-some f e)
-content_good block mode taken (OfFault fault) f e = absurd (none-some f e)
-content_good block mode taken OfClock f e = absurd (none-some f e)
-content_good block mode taken (OfMode on) f e = absurd (none-some f e)
+content_good _ _ _ _ f e = absurd (none-some f e)
 
 reading_good : {A : Type 0} (block : Block A) (mode taken : Bool) (o : Option EventRead) (f : Facts) → facts_at block mode taken o ≡ Some f → (r : EventRead) × (x : FrameRead) × (o ≡ Some r) × (r.content ≡ OfGoose x)
 reading_good block mode taken None f e = absurd (none-some f e)

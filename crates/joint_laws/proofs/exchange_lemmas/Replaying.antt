@@ -45,11 +45,7 @@ not_zero n lt = ne_eqb n 0 (λ e. omega arith)
 
 no_other_id : (awaited id : Option (List ℕ)) → (awaited ≡ None) ⊎ (awaited ≡ id) → has_other_id awaited id ≡ false
 no_other_id awaited id (inl none) = ap (λ (o : Option (List ℕ)). has_other_id o id) none
-no_other_id awaited id (inr same) = ap (λ (o : Option (List ℕ)). has_other_id o id) same ∙ itself id
-  where
-    itself : (o : Option (List ℕ)) → has_other_id o o ≡ false
-    itself None = refl
-    itself (Some t) = same_text t t refl
+no_other_id awaited id (inr same) = ap (λ (o : Option (List ℕ)). has_other_id o id) same ∙ (elim id as (λ (o : Option (List ℕ)). has_other_id o o ≡ false) [ None ↦ refl | Some t ↦ same_text t t refl ])
 
 after_plain : (n : ℕ) → n < 4294967295 → number_behind n ≡ n + 1
 after_plain n lt = ap (λ (b : Bool). if b then 1 else n + 1) (ne_eqb n 4294967295 (λ e. omega arith))
@@ -87,16 +83,7 @@ module _ {A B : Type 0} (p : Setup A) (block : Block B) (own : IsOwnBlock p bloc
         no_other_id block.go_id p.control.go_id own.go_id,
         (
           same_number block.conf_rev p.control.conf_rev own.conf_rev,
-          (
-            own.nds_com,
-            (
-              refl,
-              (
-                same_number block.entries (length l.values) (own.entries ∙ sym entries),
-                (not_zero l.state some, (not_zero (live_at l) (live_some l.step below), tt)),
-              ),
-            ),
-          ),
+          (own.nds_com, (refl, (same_number block.entries (length l.values) (own.entries ∙ sym entries), (not_zero l.state some, (not_zero (live_at l) (live_some l.step below), tt))))),
         ),
       ),
     );

@@ -90,8 +90,7 @@ content f = content_by (Ok f)
 
 frame_octets : EventKind (Unit {0}) → List ℕ
 frame_octets (kinds.Frame o) = o
-frame_octets kinds.Clock = []
-frame_octets (kinds.Mode on) = []
+frame_octets _ = []
 
 module _ (again_octets new_octets : List ℕ) (again_spelled : SpellsFrame again again_octets) (new_spelled : SpellsFrame new new_octets) where
   abbrev events : List (Event (Unit {0}))

@@ -34,14 +34,7 @@ word_small true = omega arith
 word_small false = omega arith
 
 frame_held : {A : Type 0} (p : Setup A) (state k : ℕ) (change : Change) → HasSizes p → IsHeld (frame p.control p.table state change k)
-frame_held p state k change held = record {
-  to = held.to;
-  from = held.from;
-  tag = held.tag;
-  app_id = held.app_id;
-  reserved1 = word_small p.control.simulation;
-  reserved2 = omega arith;
-}
+frame_held p state k change held = record { to = held.to; from = held.from; tag = held.tag; app_id = held.app_id; reserved1 = word_small p.control.simulation; reserved2 = omega arith }
 
 frame_spellable : {A : Type 0} (p : Setup A) (c k : ℕ) (change : Change) → HasSizes p → IsAccepted p.control p.table (state_number p.first c) change → ApduIsSpellable (frame p.control p.table (state_number p.first c) change k).apdu
 frame_spellable p c k change held accepted = record {

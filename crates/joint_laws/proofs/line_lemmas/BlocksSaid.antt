@@ -37,8 +37,8 @@ use Rattle.inventory_engine.specs.Sightings.{Sighting, block_parts, block_sighti
 use Rattle.inventory_engine.specs.BlocksText.{AreBlocksTexts, AreLines, IsLineAfter, ShowsEvent, Telling, line_after, telling}
 use Rattle.inventory_engine.proofs.FirstLines.{behind, lines_one}
 use Rattle.joint_laws.specs.Given.{IsGivenKind, IsWide}
-use Rattle.joint_laws.specs.JsonLines.{AreJsonLines, EventsAreJson, BlocksIsJson}
-use Rattle.joint_laws.proofs.line_lemmas.SpokenLines.{Say, SayEach, json_lines, say_both, say_none, say_same}
+use Rattle.joint_laws.specs.JsonLines.{BlocksIsJson}
+use Rattle.joint_laws.proofs.line_lemmas.SpokenLines.{Say, SayEach, json_said, say_both, say_none, say_same}
 use Rattle.joint_laws.proofs.line_lemmas.Optional.{text_or_null_is, two_are_octets}
 use Rattle.joint_laws.proofs.line_lemmas.Spelled.{frame_held}
 use Rattle.joint_laws.proofs.line_lemmas.Told.{say_event}
@@ -142,19 +142,15 @@ frame_told c n moment octets (Ok f) read wide past are =
     apdu_told c n moment f.app_id f.apdu wide past (frame_held octets f are spelled).app_id (frame_spellable octets f are spelled)
 
 kind_told : {A : Type 0} (c : Counted) (n moment : ℕ) (k : EventKind A) → IsWide n → IsWide moment → IsGivenKind k → AllByRecursion (IsTold c n moment) (sightings_of k)
-kind_told c n moment kinds.Clock wide past given = tt
-kind_told c n moment (kinds.Mode on) wide past given = tt
 kind_told c n moment (kinds.Frame octets) wide past given = frame_told {A = Unit {0}} c n moment octets (frame_at octets) refl wide past given
+kind_told _ _ _ _ _ _ _ = tt
 
 -- ---- the lines of sightings, told otherwise
 
 say_after : (c : Counted) (n moment : ℕ) (s : Sighting) (o : Option (List ℕ)) → IsTold c n moment s → Say (line_after (telling (forms.Object c) n moment) s o) (line_after (telling forms.Text n moment) s o)
 say_after c n moment s None told = told.first
-say_after c n moment s (Some newest) told = go (bytes_eq newest s.text)
-  where
-    go : (b : Bool) → Say (if b then [] else (telling (forms.Object c) n moment).of_changed s) (if b then [] else (telling forms.Text n moment).of_changed s)
-    go true = say_none
-    go false = told.changed
+say_after c n moment s (Some newest) told =
+    elim (bytes_eq newest s.text) as (λ (b : Bool). Say (if b then [] else (telling (forms.Object c) n moment).of_changed s) (if b then [] else (telling forms.Text n moment).of_changed s)) [ true ↦ say_none | false ↦ told.changed ]
 
 in_front : (t : Telling) (earlier seen : List Sighting) (s : Sighting) (x : List ℕ) (xs : List (List ℕ)) → IsLineAfter t (earlier ++ []) s x → AreLines t (earlier ++ s ∷ []) seen xs → AreLines t earlier (s ∷ seen) (x ∷ xs)
 in_front t earlier seen s x xs first h = record {
@@ -173,8 +169,6 @@ record Retold (c : Counted) (n moment : ℕ) (earlier seen : List Sighting) (xs 
 
 retold : (c : Counted) (n moment : ℕ) (earlier seen : List Sighting) (xs : List (List ℕ)) → AllByRecursion (IsTold c n moment) seen → AreLines (telling (forms.Object c) n moment) earlier seen xs → Retold c n moment earlier seen xs
 retold c n moment earlier [] [] told h = record { lines = []; are_lines = record { sizes = refl; each = λ i s line e f. cc }; says = say_none }
-retold c n moment earlier [] (x ∷ xs) told h = let size = h.sizes in absurd (omega arith)
-retold c n moment earlier (s ∷ seen) [] told h = let size = h.sizes in absurd (omega arith)
 retold c n moment earlier (s ∷ seen) (x ∷ xs) told h =
     let first = h.each 0 s x refl refl in
     let others = retold c n moment (earlier ++ s ∷ []) seen xs told.1 (behind (telling (forms.Object c) n moment) earlier seen s x xs h) in
@@ -184,6 +178,7 @@ retold c n moment earlier (s ∷ seen) (x ∷ xs) told h =
       are_lines = in_front (telling forms.Text n moment) earlier seen s line others.lines (record { newest = first.newest; is_newest = first.is_newest; is_line = refl }) others.are_lines;
       says = say_same _ _ _ _ (ap (λ (l : List ℕ). l ++ concat xs) first.is_line) refl (say_both _ _ _ _ (say_after c n moment s first.newest told.0) others.says);
     }
+retold c n moment earlier _ _ told h = let size = h.sizes in absurd (omega arith)
 
 -- ---- what is written
 
@@ -196,15 +191,6 @@ written_so : {A : Type 0} (form : Form) (texts : Form → EventText A) (before :
 written_so form texts before e written w is =
     ap (λ (x : List ℕ × Bool). x.0) (sym is ∙ told_so form texts before e w)
 
-blocks_json : {A : Type 0} (texts : Form → EventText A) → AreBlocksTexts texts → EventsAreJson (exactly_each texts)
-blocks_json texts are c before e written given is =
-    let w = are (forms.Object c) before e in
-    let told = kind_told c e.0 e.1.moment e.1.kind given.number given.moment given.kind in
-    subst AreJsonLines (sym (written_so (forms.Object c) texts before e written w is)) (retold c e.0 e.1.moment (sightings_in before) (sightings_of e.1.kind) w.lines told w.are_lines).says.are_json
-
-pub blocks_is_json : {A C F : Type 0} → BlocksIsJson A C F
-blocks_is_json {A} {C} {F} texts are = json_lines C F (exactly_each texts) (blocks_json texts are)
-
 pub blocks_says : {A : Type 0} (texts : Form → EventText A) → AreBlocksTexts texts → SayEach (exactly_each texts)
 blocks_says texts are c before e objects lines given is also =
     let w = are (forms.Object c) before e in
@@ -216,3 +202,6 @@ blocks_says texts are c before e objects lines given is also =
       say_same _ _ _ _ (written_so (forms.Object c) texts before e objects w is) (written_so forms.Text texts before e lines v also ∙ sym (ap concat same)) r.says,
       ap found (sym is ∙ told_so (forms.Object c) texts before e w) ∙ ap found (sym (told_so forms.Text texts before e v) ∙ also),
     )
+
+pub blocks_is_json : {A C F : Type 0} → BlocksIsJson A C F
+blocks_is_json {A} {C} {F} texts are = json_said C F (exactly_each texts) (λ before e. (_, refl)) (blocks_says texts are)

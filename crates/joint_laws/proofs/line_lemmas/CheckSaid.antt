@@ -1,5 +1,5 @@
 -- The notes of `check`, as objects and as text.
-use Rattle.std.proofs.Common.{◌≡◌, ℕ, ◌<◌, true, false, List, [], ◌∷◌, ◌++◌, length, ap, refl, sym, subst, ◌∙◌, arith}
+use Rattle.std.proofs.Common.{◌≡◌, ℕ, ◌<◌, true, false, List, [], ◌∷◌, ◌++◌, length, ap, refl, sym, ◌∙◌, arith}
 use Rattle.std.specs.Prelude.{Bool, Result, Ok, Err, codes}
 use Rattle.std.specs.Fmt.{decimal}
 use Rattle.std.proofs.lemmas.Fmt.{decimal_nonempty}
@@ -17,9 +17,9 @@ use Rattle.frame_engines.specs.CheckObject.{check_event_in, frame_note_objects, 
 use Rattle.frame_engines.specs.CheckText.{frame_notes, goes_where_recommended, has_text, is_form, note_unless, notes}
 use Rattle.frame_engines.specs.WrittenForm.{fitting_form}
 use Rattle.joint_laws.specs.Given.{IsGivenKind, IsWide}
-use Rattle.joint_laws.specs.JsonLines.{AreJsonLines, EventsAreJson, CheckIsJson}
+use Rattle.joint_laws.specs.JsonLines.{CheckIsJson}
 use Rattle.joint_laws.proofs.line_lemmas.FaultPlaces.{fault_wide}
-use Rattle.joint_laws.proofs.line_lemmas.SpokenLines.{Say, SayEach, json_lines, say_both, say_none, say_same}
+use Rattle.joint_laws.proofs.line_lemmas.SpokenLines.{Say, SayEach, json_said, say_both, say_none, say_same}
 use Rattle.joint_laws.proofs.line_lemmas.Told.{say_destination, say_fault, say_not_written}
 
 frame_says : {A : Type 0} (c : Counted) (n moment : ℕ) (octets : List ℕ) (r : Result (Frame A) Fault) → IsWide n → IsWide moment → ((f : Fault) → r ≡ Err f → IsWide f.place)
@@ -29,9 +29,8 @@ frame_says c n moment octets (Ok f) small past place =
     say_both _ _ _ _ (say_not_written (is_form (fitting_form (Ok f)) octets) c n moment small past) (say_destination (goes_where_recommended f) c n moment small past)
 
 kind_says : {A : Type 0} (c : Counted) (n moment : ℕ) (k : EventKind A) → IsWide n → IsWide moment → IsGivenKind k → Say (kind_note_objects c n moment k) (notes n k)
-kind_says c n moment kinds.Clock small past given = say_none
-kind_says c n moment (kinds.Mode on) small past given = say_none
 kind_says c n moment (kinds.Frame octets) small past given = frame_says {A = Unit {0}} c n moment octets (frame_at octets) small past (λ f e. fault_wide {A = Unit {0}} octets f e)
+kind_says _ _ _ _ _ _ _ = say_none
 
 -- ---- something is noted in both or in none
 
@@ -59,19 +58,10 @@ frame_found c n moment octets (Err f) wide = fault_found c n moment f wide
 frame_found c n moment octets (Ok f) wide = notes_found (is_form (fitting_form (Ok f)) octets) (goes_where_recommended f) c n moment wide
 
 kind_found : {A : Type 0} (c : Counted) (n moment : ℕ) (k : EventKind A) → IsWide n → has_text (kind_note_objects c n moment k) ≡ has_text (notes n k)
-kind_found c n moment kinds.Clock wide = refl
-kind_found c n moment (kinds.Mode on) wide = refl
 kind_found c n moment (kinds.Frame octets) wide = frame_found {A = Unit {0}} c n moment octets (frame_at octets) wide
+kind_found _ _ _ _ _ = refl
 
 -- ---- what is written
-
-check_json : {A : Type 0} → EventsAreJson {A = A} (exactly_each check_event_in)
-check_json c before e written given is =
-    let said = kind_says c e.0 e.1.moment e.1.kind given.number given.moment given.kind in
-    subst (λ (w : List ℕ × Bool). AreJsonLines w.0) is said.are_json
-
-pub check_is_json : {A C F : Type 0} → CheckIsJson A C F
-check_is_json {A} {C} {F} = json_lines C F (exactly_each check_event_in) check_json
 
 pub check_says : {A : Type 0} → SayEach {A = A} (exactly_each check_event_in)
 check_says c before e objects lines given is also =
@@ -80,3 +70,6 @@ check_says c before e objects lines given is also =
       say_same _ _ _ _ (ap first (sym is)) (ap first (sym also)) (kind_says c e.0 e.1.moment e.1.kind given.number given.moment given.kind),
       ap found (sym is) ∙ kind_found c e.0 e.1.moment e.1.kind given.number ∙ ap found also,
     )
+
+pub check_is_json : {A C F : Type 0} → CheckIsJson A C F
+check_is_json {A} {C} {F} = json_said C F (exactly_each check_event_in) (λ before e. (_, refl)) check_says

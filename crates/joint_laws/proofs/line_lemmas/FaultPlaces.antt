@@ -66,11 +66,10 @@ in_simple f kinds.BitString p s c l h = in_bits f s c h
 in_simple f kinds.Integer p s c l h = in_integer l h
 in_simple f kinds.Unsigned p s c l h = in_integer l h
 in_simple f kinds.FloatingPoint p s c l h = by_place _ (omega arith) h.0
-in_simple f kinds.OctetString p s c l h = absurd h
 in_simple f kinds.VisibleString p s c l (a, b, x, parts, seen, unseen, is) = in_text s a b c x parts is
 in_simple f kinds.BinaryTime p s c l h = by_place _ (omega arith) h.0
-in_simple f kinds.MmsString p s c l h = absurd h
 in_simple f kinds.UtcTime p s c l h = by_place _ (omega arith) h.1
+in_simple _ _ _ _ _ _ h = absurd h
 
 in_members : (f : Fault) {L p : ℕ} {o : List ℕ} → FaultIn f L p o → f.place ≤ p + length o
 in_members f {L} {p} {o} (members.later d first rest spelled parts behind) = omega (arith, in_members f behind, two_sizes first rest o parts)
@@ -84,12 +83,9 @@ in_members f {L} {p} {o} (members.within id c size rest low kind parts len insid
 in_contents : (f : Fault) (k : Kind) (at from : ℕ) (c : List ℕ) → at + 1 ≤ from → ContentsFault f k at from c → f.place ≤ from + length c
 in_contents f contents.text at from c l (a, b, x, parts, seen, unseen, is) = in_text from a b c x parts is
 in_contents f contents.number at from c l h = in_integer l h
-in_contents f contents.flag at from c l h = by_place _ (omega arith) h.1
-in_contents f contents.time at from c l h = by_place _ (omega arith) h.1
 in_contents f contents.members at from c l h = in_members f h
-in_contents f (contents.fixed size) at from c l h = by_place _ (omega arith) h.1
 in_contents f contents.raw at from c l h = absurd h
-in_contents f contents.few at from c l h = by_place _ (omega arith) h.1
+in_contents f _ at from c l h = by_place _ (omega arith) h.1
 
 -- so it is with contents of each kind
 abbrev AreNear : {K I : Type 0} → Grammar K I → Type 0

@@ -23,35 +23,25 @@ word_or_dash null = codes "-"
 word_or_dash (boolean b) = inner (boolean b)
 word_or_dash (number s) = s
 word_or_dash (string s) = s
-word_or_dash (array js) = []
-word_or_dash (object ms) = []
+word_or_dash _ = []
 
 -- a text between quotation marks, or a dash for null
 abbrev pub text_or_dash : Json → List ℕ
 text_or_dash null = codes "-"
-text_or_dash (boolean b) = []
-text_or_dash (number s) = []
 text_or_dash (string s) = value_said (string s)
-text_or_dash (array js) = []
-text_or_dash (object ms) = []
+text_or_dash _ = []
 
 -- behind a sign, where the field is there
 abbrev pub behind : List ℕ → Json → List ℕ
-behind sign null = []
 behind sign (boolean b) = sign ++ inner (boolean b)
 behind sign (number s) = sign ++ s
 behind sign (string s) = sign ++ s
-behind sign (array js) = []
-behind sign (object ms) = []
+behind _ _ = []
 
 -- the field is there
 abbrev pub is_there : Json → Bool
 is_there null = false
-is_there (boolean b) = true
-is_there (number s) = true
-is_there (string s) = true
-is_there (array js) = true
-is_there (object ms) = true
+is_there _ = true
 
 -- ---- frames
 
@@ -108,14 +98,10 @@ goose_said ms =
     (word (codes "stNum") ms) (word (codes "sqNum") ms) (word (codes "simulation") ms) (word (codes "confRev") ms) (word (codes "ndsCom") ms) (members_said (at (codes "members") ms))
 
 abbrev pub asdu_said : Json → List ℕ
-asdu_said null = []
-asdu_said (boolean b) = []
-asdu_said (number s) = []
-asdu_said (string s) = []
-asdu_said (array js) = []
 asdu_said (object ms) =
     asdu_words (value_said (at (codes "svID") ms)) (text_or_dash (at (codes "datSet") ms)) (word (codes "smpCnt") ms) (word (codes "confRev") ms) (word_or_dash (at (codes "refrTm") ms))
     (word (codes "smpSynch") ms) (word_or_dash (at (codes "smpRate") ms)) (word (codes "sample") ms) (word_or_dash (at (codes "smpMod") ms)) (word_or_dash (at (codes "field89") ms))
+asdu_said _ = []
 
 abbrev pub asdus_said : Items → List (List ℕ)
 asdus_said no_items = []
@@ -125,12 +111,8 @@ abbrev pub sv_words : List (List ℕ) → List ℕ
 sv_words asdus = 32 ∷ 123 ∷ join_with_byte 32 asdus ++ 125 ∷ []
 
 abbrev sv_said : Json → List ℕ
-sv_said null = []
-sv_said (boolean b) = []
-sv_said (number s) = []
-sv_said (string s) = []
 sv_said (array js) = sv_words (asdus_said js)
-sv_said (object ms) = []
+sv_said _ = []
 
 -- ---- what was lost
 
@@ -256,12 +238,8 @@ fields_said (member k j ms) =
     else kind_said (inner j) (word (codes "kind") ms) ms
 
 abbrev pub line_said : Json → List ℕ
-line_said null = []
-line_said (boolean b) = []
-line_said (number s) = []
-line_said (string s) = []
-line_said (array js) = []
 line_said (object ms) = fields_said ms
+line_said _ = []
 
 -- ---- texts
 
@@ -271,9 +249,8 @@ line_if (Some j) = line_said j
 
 -- by the parts that line feeds divide
 abbrev pub parts_said : List (List ℕ) → List ℕ
-parts_said [] = []
-parts_said (rest ∷ []) = []
 parts_said (line ∷ next ∷ others) = line_if (document line) ++ parts_said (next ∷ others)
+parts_said _ = []
 
 -- a text of objects, a line each
 unfoldable pub back : List ℕ → List ℕ

@@ -1,5 +1,5 @@
 -- What frames show of senders and streams, and what is told and kept of them, has octets in it, and numbers of few bits.
-use Rattle.std.proofs.Common.{◌≡◌, ◌⊎◌, ℕ, ◌+◌, ◌-◌, ◌*◌, ◌%◌, ◌^◌, ◌<◌, ◌≤◌, max, ◌||◌, Bool, true, false, List, [], ◌∷◌, map, Option, Some, None, refl, arith, inl, inr, if◌then◌else◌}
+use Rattle.std.proofs.Common.{◌≡◌, ℕ, ◌+◌, ◌-◌, ◌*◌, ◌%◌, ◌^◌, ◌<◌, ◌≤◌, max, ◌||◌, Bool, true, false, List, [], ◌∷◌, map, Option, Some, None, refl, arith, inl, inr, if◌then◌else◌}
 use Rattle.std.specs.Prelude.{IfSome, Result, Ok, Err, ◌==◌, nat_lt}
 use Rattle.std.specs.List.{AllByRecursion}
 use Rattle.std.proofs.Math.Nat.{mod-lt}
@@ -64,9 +64,8 @@ IsGivenKey (stream app_id source id) = (app_id < 65536) × AreOctets source × A
 -- of a sender a frame, of a stream a sample
 abbrev pub IsGivenShown : Key → Shown → Type 0
 IsGivenShown (sender a r s) (frame p lifetime) = IsWide p.state × IsWide p.sequence
-IsGivenShown (sender a r s) (sample count synch) = ⊥
-IsGivenShown (stream a o i) (frame p lifetime) = ⊥
 IsGivenShown (stream a o i) (sample count synch) = IsWide count × IsWide synch
+IsGivenShown _ _ = ⊥
 
 pub record IsGivenSight (s : Sight) : Type 0 where
   pub key : IsGivenKey s.key
@@ -95,9 +94,8 @@ frame_shown moment octets (Ok f) read wide are =
 
 -- what an event shows
 pub sights_given : {A : Type 0} (moment : ℕ) (k : EventKind A) → IsWide moment → IsGivenKind k → AllByRecursion IsGivenSight (sights_of moment k)
-sights_given moment kinds.Clock wide given = tt
-sights_given moment (kinds.Mode on) wide given = tt
 sights_given moment (kinds.Frame octets) wide given = frame_shown {A = Unit {0}} moment octets (frame_at octets) refl wide given
+sights_given _ _ _ _ = tt
 
 -- ---- what is told
 
@@ -108,21 +106,12 @@ IsSmallFinding (sender a r s) (StatesMissing n) = IsWide n.from × IsWide n.to
 IsSmallFinding (sender a r s) (FramesMissing state n) = IsWide state × IsWide n.from × IsWide n.to
 IsSmallFinding (sender a r s) (Late p) = IsWide p.state × IsWide p.sequence
 IsSmallFinding (sender a r s) (Restarted p) = IsWide p.state × IsWide p.sequence
-IsSmallFinding (sender a r s) (SamplesMissing from missing) = ⊥
-IsSmallFinding (sender a r s) (SampleRepeated count) = ⊥
-IsSmallFinding (sender a r s) (SampleLate count) = ⊥
-IsSmallFinding (sender a r s) (OutOfRange count) = ⊥
-IsSmallFinding (sender a r s) (Synch from to) = ⊥
-IsSmallFinding (stream a o i) (Silent since lasted) = ⊥
-IsSmallFinding (stream a o i) (StatesMissing n) = ⊥
-IsSmallFinding (stream a o i) (FramesMissing state n) = ⊥
-IsSmallFinding (stream a o i) (Late p) = ⊥
-IsSmallFinding (stream a o i) (Restarted p) = ⊥
 IsSmallFinding (stream a o i) (SamplesMissing from missing) = IsWide from × IsWide missing
 IsSmallFinding (stream a o i) (SampleRepeated count) = IsWide count
 IsSmallFinding (stream a o i) (SampleLate count) = IsWide count
 IsSmallFinding (stream a o i) (OutOfRange count) = IsWide count
 IsSmallFinding (stream a o i) (Synch from to) = IsWide from × IsWide to
+IsSmallFinding _ _ = ⊥
 
 abbrev pub AreSmall : Key → List Finding → Type 0
 AreSmall key findings = AllByRecursion (IsSmallFinding key) findings
@@ -136,18 +125,10 @@ abbrev IsSmallSpan : Option Span → Type 0
 IsSmallSpan o = IfSome o (λ n. IsWide n.from × IsWide n.to)
 
 over_upto : (deadline moment : ℕ) → IsUpTo moment (over_at deadline moment)
-over_upto deadline moment = go (cases_lt moment deadline)
-  where
-    go : (moment < deadline) ⊎ (deadline ≤ moment) → IsUpTo moment (over_at deadline moment)
-    go (inl lt) = rw (lt-leb deadline moment lt) tt
-    go (inr le) = rw (le-leb deadline moment le) le
+over_upto deadline moment = elim (cases_lt moment deadline) [ inl lt ↦ rw (lt-leb deadline moment lt) tt | inr le ↦ rw (le-leb deadline moment le) le ]
 
 span_small : (from until : ℕ) → IsWide until → IsSmallSpan (span from until)
-span_small from until wide = go (cases_lt from until)
-  where
-    go : (from < until) ⊎ (until ≤ from) → IsSmallSpan (span from until)
-    go (inl lt) = rw (lt-ltb from until lt) (omega arith, omega arith)
-    go (inr le) = rw (le-ltb from until le) tt
+span_small from until wide = elim (cases_lt from until) [ inl lt ↦ rw (lt-ltb from until lt) (omega arith, omega arith) | inr le ↦ rw (le-ltb from until le) tt ]
 
 module _ (app_id : ℕ) (reference : List ℕ) (simulation : Bool) where
   silence_small : (since : Option ℕ) (moment : ℕ) → IsUpTo moment since → IsWide moment → AreSmall (sender app_id reference simulation) (silence since moment)
@@ -184,13 +165,8 @@ module _ (app_id : ℕ) (reference : List ℕ) (simulation : Bool) where
 -- ---- samples
 
 abbrev IsSmallCame : Came → Type 0
-IsSmallCame came.First = Unit {0}
-IsSmallCame came.Next = Unit {0}
 IsSmallCame (came.Missing n) = IsWide n
-IsSmallCame came.Repeated = Unit {0}
-IsSmallCame came.Late = Unit {0}
-IsSmallCame came.BeforeFirst = Unit {0}
-IsSmallCame came.OutOfRange = Unit {0}
+IsSmallCame _ = Unit {0}
 
 abbrev IsSmallAdvance : Advance → Type 0
 IsSmallAdvance (Ahead n) = IsWide n
@@ -204,11 +180,7 @@ nearest_small period elapsed rest few wide =
     omega arith
 
 advance_small : (period n : ℕ) → IsWide n → IsSmallAdvance (advance_of period n)
-advance_small period n wide = go (cases_lt period n)
-  where
-    go : (period < n) ⊎ (n ≤ period) → IsSmallAdvance (advance_of period n)
-    go (inl lt) = rw (lt-ltb period n lt) (omega arith)
-    go (inr le) = rw (le-ltb period n le) tt
+advance_small period n wide = elim (cases_lt period n) [ inl lt ↦ rw (lt-ltb period n lt) (omega arith) | inr le ↦ rw (le-ltb period n le) tt ]
 
 by_small : (run front : ℕ) (a : Advance) → IsSmallAdvance a → IsSmallCame (by_advance run front a)
 by_small run front (Ahead n) small = go (n == 1)
@@ -240,23 +212,16 @@ told_small period app_id source id count came.First some few wide small = tt
 told_small period app_id source id count came.Next some few wide small = tt
 told_small period app_id source id count (came.Missing n) some few wide small =
     let first : first_missing period count n < period = mod-lt (count + (period - n % period)) some in ((omega arith, small), tt)
-told_small period app_id source id count came.Repeated some few wide small = (wide, tt)
-told_small period app_id source id count came.Late some few wide small = (wide, tt)
 told_small period app_id source id count came.BeforeFirst some few wide small = tt
-told_small period app_id source id count came.OutOfRange some few wide small = (wide, tt)
+told_small _ _ _ _ _ _ _ _ wide _ = (wide, tt)
 
 count_small : (period : Option ℕ) (app_id : ℕ) (source id : List ℕ) (count : ℕ) (c : Option Came) → IsPeriodOf period → IsWide count → IfSome c IsSmallCame → AreSmall (stream app_id source id) (count_told period count c)
-count_small None app_id source id count c is wide small = tt
-count_small (Some period) app_id source id count None is wide small = tt
 count_small (Some period) app_id source id count (Some c) is wide small = let in_range = is period refl in told_small period app_id source id count c in_range.0 in_range.1 wide small
+count_small _ _ _ _ _ _ _ _ _ = tt
 
 synch_small : (app_id : ℕ) (source id : List ℕ) (before : Option ℕ) (synch : ℕ) → IfSome before IsWide → IsWide synch → AreSmall (stream app_id source id) (synch_told before synch)
 synch_small app_id source id None synch wide small = tt
-synch_small app_id source id (Some before) synch wide small = go (before == synch)
-  where
-    go : (b : Bool) → AreSmall (stream app_id source id) (if b then [] else Synch before synch ∷ [])
-    go true = tt
-    go false = ((wide, small), tt)
+synch_small app_id source id (Some before) synch wide small = elim (before == synch) as (λ (b : Bool). AreSmall (stream app_id source id) (if b then [] else Synch before synch ∷ [])) [ true ↦ tt | false ↦ ((wide, small), tt) ]
 
 -- ---- what is kept
 
@@ -343,31 +308,24 @@ first_small period moment (frame p lifetime) key is wide given = record {
   silent = omega arith;
   longest = omega arith;
 }
-first_small None moment (sample count synch) (sender a r s) is wide given = absurd given
 first_small None moment (sample count synch) (stream a o i) is wide given = (omega arith, given.1)
-first_small (Some period) moment (sample count synch) (sender a r s) is wide given = absurd given
 first_small (Some period) moment (sample count synch) (stream a o i) is wide given = ((is period refl).1, stream_sums_small (fresh_tally period).totals _, given.1)
+first_small _ _ (sample _ _) (sender _ _ _) _ _ given = absurd given
 
 more_small : (moment : ℕ) (shown : Shown) (key : Key) (known : Progress) → IsWide moment → IsGivenShown key shown → IsSmallProgress known → IsSmallProgress (more_progress moment shown known)
 more_small moment (frame p lifetime) key (frames t) wide given small =
     let a : Arrival = record { pair = p; moment = moment; lifetime = lifetime } in
     sums_small t.totals a (told_after (Some t.sender) a) t.set_at small.longest wide
-more_small moment (frame p lifetime) key (samples u z) wide given small = small
-more_small moment (frame p lifetime) key (counted n z) wide given small = small
-more_small moment (sample count synch) key (frames t) wide given small = small
 more_small moment (sample count synch) (sender a r s) (samples u z) wide given small = absurd given
 more_small moment (sample count synch) (stream a o i) (samples u z) wide given small = (small.0, stream_sums_small u.totals _, given.1)
 more_small moment (sample count synch) (sender a r s) (counted n z) wide given small = absurd given
 more_small moment (sample count synch) (stream a o i) (counted n z) wide given small = (kept_wide (n + 1), given.1)
+more_small _ _ _ _ _ _ small = small
 
 -- what is known of a key among what is kept
 pub known_small : (xs : List Tracked) (key : Key) → AllByRecursion IsSmallTracked xs → IfSome (known_of xs key) IsSmallProgress
 known_small [] key small = tt
-known_small (x ∷ xs) key small = go (same_key x.key key) (known_small xs key small.1)
-  where
-    go : (b : Bool) → IfSome (known_of xs key) IsSmallProgress → IfSome (if b then Some x.progress else known_of xs key) IsSmallProgress
-    go true rest = small.0.progress
-    go false rest = rest
+known_small (x ∷ xs) key small = elim (same_key x.key key) as (λ (b : Bool). IfSome (if b then Some x.progress else known_of xs key) IsSmallProgress) [ true ↦ small.0.progress | false ↦ known_small xs key small.1 ]
 
 with_small : (xs : List Tracked) (key : Key) (first : Progress) (more : Progress → Progress) → AllByRecursion IsSmallTracked xs → IsGivenKey key → IsSmallProgress first
     → ((known : Progress) → IsSmallProgress known → IsSmallProgress (more known)) → AllByRecursion IsSmallTracked (with_progress xs key first more)
@@ -388,38 +346,30 @@ track_small periods xs s are small given =
 -- ---- what a sight tells by what is kept
 
 came_in_small : (period : Option ℕ) (known : Option Progress) (s : Sample) → IsPeriodOf period → IsWide s.moment → IfSome known IsSmallProgress → IfSome (came_in period known s) IsSmallCame
-came_in_small None None s is wide small = tt
 came_in_small (Some period) None s is wide small = came_small period None s (is period refl).1 wide
-came_in_small period (Some (frames t)) s is wide small = tt
 came_in_small period (Some (samples u z)) s is wide small = came_small u.stream.period u.stream.newest s small.0 wide
-came_in_small period (Some (counted n z)) s is wide small = tt
+came_in_small _ _ _ _ _ _ = tt
 
 synch_by_small : (known : Option Progress) → IfSome known IsSmallProgress → IfSome (synch_of known) IsWide
-synch_by_small None small = tt
-synch_by_small (Some (frames t)) small = tt
 synch_by_small (Some (samples u z)) small = small.2
 synch_by_small (Some (counted n z)) small = small.1
+synch_by_small _ _ = tt
 
 pub findings_small : (period : Option ℕ) (known : Option Progress) (key : Key) (moment : ℕ) (shown : Shown) → IsPeriodOf period → IfSome known IsSmallProgress → IsWide moment → IsGivenShown key shown
     → AreSmall key (findings_by period known moment shown)
 findings_small period known (sender a r s) moment (frame p lifetime) is small wide given = frame_small a r s (sender_of known) (record { pair = p; moment = moment; lifetime = lifetime }) wide given.0 given.1
-findings_small period known (stream a o i) moment (frame p lifetime) is small wide given = absurd given
-findings_small period known (sender a r s) moment (sample count synch) is small wide given = absurd given
 findings_small period known (stream a o i) moment (sample count synch) is small wide given =
     let s : Sample = record { count = count; moment = moment } in
     all_both (IsSmallFinding (stream a o i)) (count_told period count (came_in period known s)) (synch_told (synch_of known) synch)
     (count_small period a o i count (came_in period known s) is given.0 (came_in_small period known s is wide small))
     (synch_small a o i (synch_of known) synch (synch_by_small known small) given.1)
+findings_small _ _ _ _ _ _ _ _ given = absurd given
 
 -- ---- what has not come back
 
 stale_upto : (newest : Option Newest) (end : ℕ) → IsUpTo end (stale_newest newest end)
 stale_upto None end = tt
-stale_upto (Some n) end = go (cases_lt end (n.moment + 1000000))
-  where
-    go : (end < n.moment + 1000000) ⊎ (n.moment + 1000000 ≤ end) → IsUpTo end (stale_newest (Some n) end)
-    go (inl lt) = rw (lt-leb (n.moment + 1000000) end lt) tt
-    go (inr le) = rw (le-leb (n.moment + 1000000) end le) (omega arith)
+stale_upto (Some n) end = elim (cases_lt end (n.moment + 1000000)) [ inl lt ↦ rw (lt-leb (n.moment + 1000000) end lt) tt | inr le ↦ rw (le-leb (n.moment + 1000000) end le) (omega arith) ]
 
 -- it is since a moment up to the end
 pub silent_upto : (end : ℕ) (p : Progress) → IsUpTo end (silent_since end p)

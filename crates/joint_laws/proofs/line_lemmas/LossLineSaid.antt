@@ -86,16 +86,7 @@ say_finding c n moment (stream a o i) (OutOfRange count) small past given few =
     say_event 0 c n small (moment_then 0 moment (codes "count-out-of-range") past (by_test (codes "count-out-of-range") refl) (key_then (stream a o i) given (count_named count few))) _ (omega arith) refl refl refl
 say_finding c n moment (stream a o i) (Synch from to) small past given few =
     say_event 0 c n small (moment_then 0 moment (codes "synch") past (by_test (codes "synch") refl) (key_then (stream a o i) given (span_named from to few.0 few.1))) _ (omega arith) refl refl refl
-say_finding c n moment (sender a r s) (SamplesMissing from missing) small past given few = absurd few
-say_finding c n moment (sender a r s) (SampleRepeated count) small past given few = absurd few
-say_finding c n moment (sender a r s) (SampleLate count) small past given few = absurd few
-say_finding c n moment (sender a r s) (OutOfRange count) small past given few = absurd few
-say_finding c n moment (sender a r s) (Synch from to) small past given few = absurd few
-say_finding c n moment (stream a o i) (Silent since lasted) small past given few = absurd few
-say_finding c n moment (stream a o i) (StatesMissing m) small past given few = absurd few
-say_finding c n moment (stream a o i) (FramesMissing state m) small past given few = absurd few
-say_finding c n moment (stream a o i) (Late p) small past given few = absurd few
-say_finding c n moment (stream a o i) (Restarted p) small past given few = absurd few
+say_finding _ _ _ _ _ _ _ _ few = absurd few
 
 -- that time goes back, where it does
 pub say_back : (c : Counted) (n moment : ℕ) (back : Option ℕ) → IsWide n → IsWide moment → IfSome back IsWide → Say (back_lines (forms.Object c) n moment back) (back_lines forms.Text n moment back)

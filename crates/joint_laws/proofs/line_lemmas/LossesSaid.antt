@@ -79,15 +79,13 @@ all_kept_small periods k (e ∷ items) is small given = all_kept_small periods (
 -- pieces say the same as objects and as lines, each in its place
 abbrev AreSaid : List ItemText → List ItemText → Type 0
 AreSaid [] [] = Unit {0}
-AreSaid [] (l ∷ ls) = ⊥
-AreSaid (o ∷ os) [] = ⊥
 AreSaid (o ∷ os) (l ∷ ls) = SayPiece o l × AreSaid os ls
+AreSaid _ _ = ⊥
 
 both_said : (os ps ls ms : List ItemText) → AreSaid os ls → AreSaid ps ms → AreSaid (os ++ ps) (ls ++ ms)
 both_said [] ps [] ms a b = b
-both_said [] ps (l ∷ ls) ms a b = absurd a
-both_said (o ∷ os) ps [] ms a b = absurd a
 both_said (o ∷ os) ps (l ∷ ls) ms a b = (a.0, both_said os ps ls ms a.1 b)
+both_said _ _ _ _ a _ = absurd a
 
 abbrev piece_text : ℕ × ItemText → ItemText
 piece_text w = w.1
@@ -119,9 +117,8 @@ totals_said c end (x ∷ xs) small = (say_total c x.key end x.progress small.0.k
 lines_said : (c : Counted) (n : ℕ) (os ls : List ItemText) → AreSaid os ls
     → AreSaid (map piece_text (numbered_all n (map (closing_in (Lines (forms.Object c))) os))) (map piece_text (numbered_all n (map (closing_in (Lines forms.Text)) ls)))
 lines_said c n [] [] said = tt
-lines_said c n [] (l ∷ ls) said = absurd said
-lines_said c n (o ∷ os) [] said = absurd said
 lines_said c n (o ∷ os) (l ∷ ls) said = (said.0, lines_said c n os ls said.1)
+lines_said _ _ _ _ said = absurd said
 
 closing_said : {F : Type 0} (c : Counted) (stop : Stop F) (n : ℕ) (k : Kept) → IsSmallKept k → AreSaid (map piece_text (closing_pieces (Lines (forms.Object c)) stop n k)) (map piece_text (closing_pieces (Lines forms.Text) stop n k))
 closing_said c finished n k small =
@@ -147,9 +144,8 @@ defined_so periods form said pieces is are = (losses_once periods (Lines form) s
 -- each in its place, of which there are as many
 said_sizes : (os ls : List ItemText) → AreSaid os ls → length os ≡ length ls
 said_sizes [] [] said = refl
-said_sizes [] (l ∷ ls) said = absurd said
-said_sizes (o ∷ os) [] said = absurd said
 said_sizes (o ∷ os) (l ∷ ls) said = ap suc (said_sizes os ls said.1)
+said_sizes _ _ said = absurd said
 
 said_at : (os ls : List ItemText) → AreSaid os ls → (i : ℕ) (o l : ItemText) → slice_get os i ≡ Some o → slice_get ls i ≡ Some l → SayPiece o l
 said_at [] ls said i o l p q = absurd (none-some o p)

@@ -56,9 +56,8 @@ digits_said (Some octets) = refl
 -- ---- a word of two octets, a tag, a trailer
 
 pub two_are_octets : (n : ℕ) → n < 65536 → AreOctets (two_octets n)
-two_are_octets n h zero = omega arith
 two_are_octets n h (suc zero) = omega arith
-two_are_octets n h (suc (suc i)) = omega arith
+two_are_octets n h _ = omega arith
 
 abbrev pub tag_json : Option VlanTag → Json
 tag_json None = null

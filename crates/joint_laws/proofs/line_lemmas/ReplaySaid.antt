@@ -3,6 +3,7 @@ use Rattle.std.proofs.Common.{◌≡◌, ℕ, zero, suc, ◌+◌, ◌<◌, ◌�
 use Rattle.std.specs.Prelude.{slice_get}
 use Rattle.std.specs.List.{AllByRecursion}
 use Rattle.std.proofs.lemmas.Option.{same_Some}
+use Rattle.std.proofs.lemmas.Bool.{cases_Bool}
 use Rattle.pdu_core.specs.Goose.{SpellsGoose}
 use Rattle.pdu_core.specs.Spellable.{IsSpellableGoose}
 use Rattle.list_core.specs.declared.event.Event.{Event}
@@ -16,30 +17,28 @@ use Rattle.frame_core.proofs.ReadingLaws.{frame_wrong_again}
 use Rattle.frame_core.proofs.SpelledSpellable.{frame_spellable}
 use Rattle.subscribe_core.specs.Changes.{changes, is_change}
 use Rattle.subscribe_core.specs.Entries.{AreEntriesAt, AreOfContent, AreOfEach}
-use Rattle.subscribe_core.specs.EventsRead.{AreRead, Content, EventRead, FrameRead, IsContent, IsRead, OfClock, OfFault, OfGoose, OfMode, OfSampled}
+use Rattle.subscribe_core.specs.EventsRead.{AreRead, Content, EventRead, FrameRead, IsContent, IsRead, OfFault, OfGoose, OfSampled}
 use Rattle.subscribe_core.specs.FrameEntry.{IsBlockEntry, IsFrameEntry, entry_of, reason_at}
 use Rattle.subscribe_core.specs.declared.entry.Entry.{Entry}
 use Rattle.subscribe_core.specs.declared.entry.Entry.TheVariants as says
 use Rattle.subscribe_core.specs.declared.entry.Reason.{Reason}
 use Rattle.subscribe_core.specs.declared.registers.Verdict.{Verdict}
-use Rattle.subscribe_core.specs.declared.registers.Verdict.TheVariants.{Act, Older, Refreshed, Repeated}
+use Rattle.subscribe_core.specs.declared.registers.Verdict.TheVariants.{Act}
 use Rattle.exchange_engines.specs.declared.engines.replay.ReplayManner.{ReplayManner}
 use Rattle.exchange_engines.specs.ReplayText.{AreTold, Says, entries_in, events_of, opening, told_of}
 use Rattle.joint_laws.specs.Given.{AreGivenBlocks, IsGivenKind, IsWide}
-use Rattle.joint_laws.specs.JsonLines.{EventsAreJson, ReplayIsJson}
+use Rattle.joint_laws.specs.JsonLines.{ReplayIsJson}
 use Rattle.joint_laws.proofs.line_lemmas.EntrySaid.{IsGivenEntry, entries_say}
 use Rattle.joint_laws.proofs.line_lemmas.FaultPlaces.{fault_wide}
-use Rattle.joint_laws.proofs.line_lemmas.SpokenLines.{SayEach, all_both, json_lines, say_same}
+use Rattle.joint_laws.proofs.line_lemmas.SpokenLines.{SayEach, all_both, json_said, say_same}
 use Rattle.joint_laws.proofs.line_lemmas.Spelled.{AreSpelled, frame_held, members_spelled}
 
 -- ---- what is read in an event
 
 abbrev IsGivenContent : Content → Type 0
 IsGivenContent (OfGoose f) = IsSpellableGoose f.pdu × AreSpelled f.pdu.members
-IsGivenContent OfSampled = Unit {0}
 IsGivenContent (OfFault fault) = IsWide fault.place
-IsGivenContent OfClock = Unit {0}
-IsGivenContent (OfMode on) = Unit {0}
+IsGivenContent _ = Unit {0}
 
 given_content : {A : Type 0} (k : EventKind A) (content : Content) → IsGivenKind k → IsContent k content → IsGivenContent content
 given_content (kinds.Frame o) (OfGoose g) given (f, spelled, app, apdu) =
@@ -47,26 +46,17 @@ given_content (kinds.Frame o) (OfGoose g) given (f, spelled, app, apdu) =
     let spells : SpellsGoose g.pdu held.apdu = subst (λ (a : Apdu (Unit {0})). SpellsApdu a held.apdu) apdu held.spells in
     (subst ApduIsSpellable apdu (frame_spellable o f given spelled), members_spelled g.pdu held.apdu held.are_octets spells)
 given_content (kinds.Frame o) (OfFault fault) given wrong = fault_wide {A = Unit {0}} o fault (frame_wrong_again o fault wrong)
-given_content (kinds.Frame o) OfSampled given is = tt
-given_content (kinds.Frame o) OfClock given is = tt
-given_content (kinds.Frame o) (OfMode on) given is = tt
 given_content kinds.Clock (OfGoose g) given is = absurd is
 given_content kinds.Clock (OfFault fault) given is = absurd is
-given_content kinds.Clock OfSampled given is = tt
-given_content kinds.Clock OfClock given is = tt
-given_content kinds.Clock (OfMode on) given is = tt
 given_content (kinds.Mode set) (OfGoose g) given is = absurd is
 given_content (kinds.Mode set) (OfFault fault) given is = absurd is
-given_content (kinds.Mode set) OfSampled given is = tt
-given_content (kinds.Mode set) OfClock given is = tt
-given_content (kinds.Mode set) (OfMode on) given is = tt
+given_content _ _ _ _ = tt
 
 -- the last of several events is read so
 last_read : {A : Type 0} (es : List (Event A)) (e : Event A) (readings : List EventRead) (r : EventRead) → AreRead (es ++ e ∷ []) readings → slice_get readings (length es) ≡ Some r → IsRead e r
-last_read [] e [] r read at = absurd read
 last_read [] e (x ∷ readings) r read at = subst (IsRead e) (same_Some x r at) read.0
-last_read (f ∷ es) e [] r read at = absurd read
 last_read (f ∷ es) e (x ∷ readings) r read at = last_read es e readings r read.1 at
+last_read _ _ _ _ read _ = absurd read
 
 -- ---- entries
 
@@ -84,9 +74,7 @@ position_below (x ∷ blocks) (suc i) b at = let rest = position_below blocks i 
 
 verdict_given : (A : Type 0) (n b : ℕ) (f : FrameRead) (v : Verdict) → b < n → IsGivenContent (OfGoose f) → IsGivenEntry {A = A} n (entry_of {A = A} b f v)
 verdict_given A n b f Act below given = (below, (omega (arith, given.0.st_num), omega (arith, given.0.sq_num)), given.0.t, given.1)
-verdict_given A n b f Refreshed below given = (below, (omega (arith, given.0.st_num), omega (arith, given.0.sq_num)))
-verdict_given A n b f Repeated below given = (below, (omega (arith, given.0.st_num), omega (arith, given.0.sq_num)))
-verdict_given A n b f Older below given = (below, (omega (arith, given.0.st_num), omega (arith, given.0.sq_num)))
+verdict_given A n b f _ below given = (below, (omega (arith, given.0.st_num), omega (arith, given.0.sq_num)))
 
 own_given : {A : Type 0} (n : ℕ) (readings : List EventRead) (i b : ℕ) (block : Block A) (f : FrameRead) (o : Option Reason) (entry : Entry A) → b < n → IsGivenContent (OfGoose f) → IsBlockEntry readings i b block f o entry
     → IsGivenEntry n entry
@@ -103,8 +91,7 @@ content_given : {A : Type 0} (blocks : List (Block A)) (readings : List EventRea
 content_given blocks readings i (OfGoose f) entries given (entry, is, are) = subst (AllByRecursion (IsGivenEntry (length blocks))) (sym are) (frame_given blocks readings i f entry given is, tt)
 content_given blocks readings i OfSampled entries given are = subst (AllByRecursion (IsGivenEntry (length blocks))) (sym are) (tt, tt)
 content_given blocks readings i (OfFault fault) entries given are = subst (AllByRecursion (IsGivenEntry (length blocks))) (sym are) (given, tt)
-content_given blocks readings i OfClock entries given are = subst (AllByRecursion (IsGivenEntry (length blocks))) (sym are) tt
-content_given blocks readings i (OfMode on) entries given are = subst (AllByRecursion (IsGivenEntry (length blocks))) (sym are) tt
+content_given blocks _ _ _ _ _ are = subst (AllByRecursion (IsGivenEntry (length blocks))) (sym are) tt
 
 said_given : {A : Type 0} (blocks : List (Block A)) (es : List (Event A)) (e : Event A) (entries : List (Entry A)) → IsGivenKind e.kind → AreEntriesAt blocks (es ++ e ∷ []) (length es) entries
     → AllByRecursion (IsGivenEntry (length blocks)) entries
@@ -120,11 +107,7 @@ said_given blocks es e entries given (readings, read, at) =
 -- entries that are told are among those that events have
 some_given : {A : Type 0} (n : ℕ) (entries : List (Entry A)) → AllByRecursion (IsGivenEntry n) entries → AllByRecursion (IsGivenEntry n) (changes entries)
 some_given n [] all = tt
-some_given n (x ∷ entries) all = go (is_change x) refl (some_given n entries all.1)
-  where
-    go : (b : Bool) → is_change x ≡ b → AllByRecursion (IsGivenEntry n) (changes entries) → AllByRecursion (IsGivenEntry n) (changes (x ∷ entries))
-    go true e rest = rw e (all.0, rest)
-    go false e rest = rw e rest
+some_given n (x ∷ entries) all = elim (cases_Bool (is_change x)) [ inl e ↦ rw e (all.0, (some_given n entries all.1)) | inr e ↦ rw e (some_given n entries all.1) ]
 
 told_given : {A : Type 0} (n : ℕ) (alone : Bool) (entries : List (Entry A)) → AllByRecursion (IsGivenEntry n) entries → AllByRecursion (IsGivenEntry n) (told_of alone entries)
 told_given n true entries all = some_given n entries all
@@ -138,16 +121,12 @@ module _ {A : Type 0} (manner : ReplayManner) (blocks : List (Block A)) (say : S
 
 -- ---- what is written
 
-replay_json : {A : Type 0} (manner : ReplayManner) (blocks : List (Block A)) (say : Says A) → AreGivenBlocks blocks → AreTold manner blocks say → EventsAreJson (entries_in blocks say)
-replay_json manner blocks say blocks_given told c before e written given is =
-    (entries_say c blocks e.0 e.1.moment (say before e) written.0 given.number given.moment blocks_given (say_given manner blocks say told before e given.kind) is.0).are_json
-
-pub replay_is_json : {A C F : Type 0} → ReplayIsJson A C F
-replay_is_json {A} {C} {F} manner blocks say blocks_given told = json_lines C F (entries_in blocks say) (replay_json manner blocks say blocks_given told)
-
 pub replay_says : {A : Type 0} (manner : ReplayManner) (blocks : List (Block A)) (say : Says A) → AreGivenBlocks blocks → AreTold manner blocks say → SayEach (entries_in blocks say)
 replay_says manner blocks say blocks_given told c before e objects lines given is also = (
   say_same _ _ _ _ refl (ap (λ (w : List ℕ × Bool). w.0) (sym also))
       (entries_say c blocks e.0 e.1.moment (say before e) objects.0 given.number given.moment blocks_given (say_given manner blocks say told before e given.kind) is.0),
   is.1 ∙ ap (λ (w : List ℕ × Bool). w.1) also,
 )
+
+pub replay_is_json : {A C F : Type 0} → ReplayIsJson A C F
+replay_is_json {A} {C} {F} manner blocks say blocks_given told = json_said C F (entries_in blocks say) (λ before e. (_, refl)) (replay_says manner blocks say blocks_given told)

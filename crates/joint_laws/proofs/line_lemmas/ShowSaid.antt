@@ -38,13 +38,13 @@ use Rattle.frame_engines.specs.FrameText.{apdu_text, apdu_word, envelope_text, t
 use Rattle.frame_engines.specs.ShowObject.{IsAnswerObject, IsKindObject, show_allows}
 use Rattle.frame_engines.specs.ShowText.{answer_line, kind_line}
 use Rattle.joint_laws.specs.Given.{IsGivenKind, IsWide}
-use Rattle.joint_laws.specs.JsonLines.{EventsAreJson, ShowIsJson}
+use Rattle.joint_laws.specs.JsonLines.{ShowIsJson}
 use Rattle.joint_laws.proofs.line_lemmas.AsduSaid.{asdus_say}
 use Rattle.joint_laws.proofs.line_lemmas.FaultPlaces.{fault_wide}
 use Rattle.joint_laws.proofs.line_lemmas.LineSaid.{envelope_words, frame_words, goose_words, sv_words}
 use Rattle.joint_laws.proofs.line_lemmas.Optional.{tag_is, tag_json, tag_said, text_or_null_is, text_said, trailer_is, trailer_json, trailer_said, two_are_octets}
 use Rattle.joint_laws.proofs.line_lemmas.Spelled.{IsHeldFrame, asdus_have_octets, frame_held, members_spelled}
-use Rattle.joint_laws.proofs.line_lemmas.SpokenLines.{Say, SayEach, json_lines, say_same}
+use Rattle.joint_laws.proofs.line_lemmas.SpokenLines.{Say, SayEach, json_said, say_same}
 use Rattle.joint_laws.proofs.line_lemmas.Told.{say_clock, say_event, say_fault, say_mode}
 
 -- a word of a header
@@ -130,14 +130,11 @@ kind_says c n moment kinds.Clock text wide past given is = subst (λ (t : List �
 kind_says c n moment (kinds.Mode on) text wide past given is = subst (λ (t : List ℕ). Say t (decimal n ++ codes " mode " ++ decimal moment ++ codes " " ++ mode_text on ++ codes "\n")) (sym is) (say_mode c n moment on wide past)
 kind_says c n moment (kinds.Frame octets) text wide past given is = answer_says {A = Unit {0}} c n moment octets (frame_at octets) text refl wide past given (λ f e. fault_wide {A = Unit {0}} octets f e) is
 
-show_json : {A : Type 0} → EventsAreJson {A = A} show_allows
-show_json c before e written given is = (kind_says c e.0 e.1.moment e.1.kind written.0 given.number given.moment given.kind is.0).are_json
-
-pub show_is_json : {A C F : Type 0} → ShowIsJson A C F
-show_is_json {A} {C} {F} = json_lines C F show_allows show_json
-
 pub show_says : {A : Type 0} → SayEach {A = A} show_allows
 show_says c before e objects lines given is also = (
   say_same _ _ _ _ refl (ap (λ (w : List ℕ × Bool). w.0) (sym also)) (kind_says c e.0 e.1.moment e.1.kind objects.0 given.number given.moment given.kind is.0),
   is.1 ∙ ap (λ (w : List ℕ × Bool). w.1) also,
 )
+
+pub show_is_json : {A C F : Type 0} → ShowIsJson A C F
+show_is_json {A} {C} {F} = json_said C F show_allows (λ before e. (_, refl)) show_says

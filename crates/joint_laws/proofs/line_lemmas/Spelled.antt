@@ -76,11 +76,10 @@ field_holds g v o d h (left_out means none) = absent_holds g.presence v d means
 
 fields_hold : (gs : List (Field Kind Item)) (vs : List (Option Item)) (o : List ℕ) → Defaults gs → AreOctets o → SpellsFields contents_grammar gs vs o → AllHold vs
 fields_hold [] [] o d h s = tt
-fields_hold [] (v ∷ vs) o d h s = absurd s
-fields_hold (g ∷ gs) [] o d h s = absurd s
 fields_hold (g ∷ gs) (v ∷ vs) o d h (a, b, first, rest, parts) =
     let all : AreOctets (a ++ b) = subst AreOctets parts h in
     (field_holds g v a d.0 (front_octets a b all) first, fields_hold gs vs b d.1 (back_octets a b all) rest)
+fields_hold _ _ _ _ _ s = absurd s
 
 -- ---- GOOSE
 
@@ -108,11 +107,7 @@ octets_if (Some o) h = h
 asdu_octets : {A : Type 0} (a : Asdu A) (c : List ℕ) → AreOctets c → SpellsFields contents_grammar asdu_fields (asdu_items a) c → HasOctets a
 asdu_octets a c h spelled =
     let all = fields_hold asdu_fields (asdu_items a) c asdu_defaults h spelled in
-    record {
-      sample = all.1.1.1.1.1.1.1.0;
-      smp_mod = octets_if a.smp_mod all.1.1.1.1.1.1.1.1.0;
-      field_89 = octets_if a.field_89 all.1.1.1.1.1.1.1.1.1.0;
-    }
+    record { sample = all.1.1.1.1.1.1.1.0; smp_mod = octets_if a.smp_mod all.1.1.1.1.1.1.1.1.0; field_89 = octets_if a.field_89 all.1.1.1.1.1.1.1.1.1.0 }
 
 each_octets : {A : Type 0} (each : List (Asdu A)) (o : List ℕ) → AreOctets o → SpellsEach asdu_grammar 0x30 tt (items_of_each each) o → AllByRecursion HasOctets each
 each_octets [] o h s = tt

@@ -91,15 +91,13 @@ all_at P (y ∷ xs) (suc i) x all h = all_at P xs i x all.1 h
 
 pub say_joined : (os ls : List ItemText) → length os ≡ length ls → ((i : ℕ) (o l : ItemText) → slice_get os i ≡ Some o → slice_get ls i ≡ Some l → Say o.text l.text) → Say (joined_texts os) (joined_texts ls)
 say_joined [] [] e each = say_none
-say_joined [] (l ∷ ls) e each = absurd (omega arith)
-say_joined (o ∷ os) [] e each = absurd (omega arith)
 say_joined (o ∷ os) (l ∷ ls) e each = say_both _ _ _ _ (each 0 o l refl refl) (say_joined os ls (omega arith) (λ i p q a b. each (suc i) p q a b))
+say_joined _ _ e each = absurd (omega arith)
 
 pub found_joined : (os ls : List ItemText) → length os ≡ length ls → ((i : ℕ) (o l : ItemText) → slice_get os i ≡ Some o → slice_get ls i ≡ Some l → o.is_finding ≡ l.is_finding) → has_finding os ≡ has_finding ls
 found_joined [] [] e each = refl
-found_joined [] (l ∷ ls) e each = absurd (omega arith)
-found_joined (o ∷ os) [] e each = absurd (omega arith)
 found_joined (o ∷ os) (l ∷ ls) e each = ap₂ (λ (a b : Bool). a || b) (each 0 o l refl refl) (found_joined os ls (omega arith) (λ i p q a b. each (suc i) p q a b))
+found_joined _ _ e each = absurd (omega arith)
 
 json_joined : (os : List ItemText) → ((i : ℕ) (o : ItemText) → slice_get os i ≡ Some o → AreJsonLines o.text) → AreJsonLines (joined_texts os)
 json_joined [] each = ([], refl, tt)
@@ -116,7 +114,7 @@ gives_lines C F allows says = record {
       ((say_joined objects lines size (λ i o l at there. (each i o l at there).0)).in_front, found_joined objects lines size (λ i o l at there. (each i o l at there).1));
 }
 
-pub json_lines : {A : Type 0} (C F : Type 0) (allows : Form → EventAllows A) → EventsAreJson allows → ObjectsAreJson C F allows
+json_lines : {A : Type 0} (C F : Type 0) (allows : Form → EventAllows A) → EventsAreJson allows → ObjectsAreJson C F allows
 json_lines C F allows each = record {
   of_event = each;
   of_run = λ c last_line last_object items texts given is.
@@ -124,3 +122,7 @@ json_lines C F allows each = record {
       let e = same_place items texts i o is.one_each at in
       each c (take i items) e.0 (o.text, o.is_finding) (all_at IsGiven items i e.0 given e.1) (is.each i e.0 o e.1 at));
 }
+
+-- objects that say lines, where there are lines, are lines of JSON
+pub json_said : {A : Type 0} (C F : Type 0) (allows : Form → EventAllows A) → ((before : List (ℕ × Event A)) (e : ℕ × Event A) → (lines : List ℕ × Bool) × allows forms.Text before e lines) → SayEach allows → ObjectsAreJson C F allows
+json_said C F allows some says = json_lines C F allows (λ c before e written given is. let lines = some before e in (says c before e written lines.0 given is lines.1).0.are_json)

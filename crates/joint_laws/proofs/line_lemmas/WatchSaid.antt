@@ -34,11 +34,11 @@ use Rattle.exchange_engines.specs.SampleLine.{Sample, sample_line, seen_word}
 use Rattle.exchange_engines.specs.SampleObject.{sample_object}
 use Rattle.exchange_engines.specs.WatchText.{AreWatchTexts, WatchesEvent, counts, counts_of, frame_watched, sample_lines, samples_from, samples_in, samples_of, telling, watched, Telling}
 use Rattle.joint_laws.specs.Given.{IsGivenKind, IsWide}
-use Rattle.joint_laws.specs.JsonLines.{AreJsonLines, EventsAreJson, WatchIsJson}
+use Rattle.joint_laws.specs.JsonLines.{WatchIsJson}
 use Rattle.engine_core.specs.EventsText.{EventText, exactly_each}
 use Rattle.object_core.specs.declared.counted.Form.{Form}
 use Rattle.joint_laws.proofs.line_lemmas.FaultPlaces.{fault_wide}
-use Rattle.joint_laws.proofs.line_lemmas.SpokenLines.{Say, SayEach, json_lines, say_both, say_none, say_same}
+use Rattle.joint_laws.proofs.line_lemmas.SpokenLines.{Say, SayEach, json_said, say_both, say_none, say_same}
 use Rattle.joint_laws.proofs.line_lemmas.Told.{say_event, say_fault}
 
 -- ---- one sample
@@ -48,12 +48,8 @@ abbrev IsSmall : Sample → Type 0
 IsSmall s = IsWide s.position × IsWide s.count
 
 abbrev IsSmallSeen : Seen → Type 0
-IsSmallSeen seen.First = Unit {0}
-IsSmallSeen seen.Next = Unit {0}
 IsSmallSeen (seen.Skipped missing) = IsWide missing
-IsSmallSeen seen.Same = Unit {0}
-IsSmallSeen seen.Late = Unit {0}
-IsSmallSeen seen.OutOfRange = Unit {0}
+IsSmallSeen _ = Unit {0}
 
 abbrev sample_fields : (s : Sample) → IsSmall s → List (Named 0) → List (Named 0)
 sample_fields s small more = decimal_field 0 (codes "asdu") s.position refl small.0 ∷ decimal_field 0 (codes "smpCnt") s.count refl small.1 ∷ more
@@ -130,10 +126,9 @@ samples_small k id (a ∷ others) few spelled = go (bytes_eq a.sv_id id) (sample
 
 samples_say : (c : Counted) (n moment : ℕ) (samples : List Sample) (answers : List Seen) → IsWide n → IsWide moment → AllByRecursion IsSmall samples → AllByRecursion IsSmallSeen answers
     → Say (sample_lines (telling (forms.Object c) n moment) samples answers) (sample_lines (telling forms.Text n moment) samples answers)
-samples_say c n moment [] answers small past few told = say_none
-samples_say c n moment (s ∷ samples) [] small past few told = say_none
 samples_say c n moment (s ∷ samples) (answer ∷ answers) small past few told =
     say_both _ _ _ _ (say_sample c n moment s answer small past few.0 told.0) (samples_say c n moment samples answers small past few.1 told.1)
+samples_say _ _ _ _ _ _ _ _ _ = say_none
 
 apdu_samples : {A : Type 0} (id : List ℕ) (a : Apdu A) → ApduIsSpellable a → AllByRecursion IsSmall (samples_in id a)
 apdu_samples id (apdus.Goose p) spelled = tt
@@ -147,9 +142,8 @@ frame_says c n moment id octets answers (Ok f) read small past are place told =
 
 kind_says : {A : Type 0} (c : Counted) (n moment : ℕ) (id : List ℕ) (k : EventKind A) (answers : List Seen) → IsWide n → IsWide moment → IsGivenKind k → AllByRecursion IsSmallSeen answers
     → Say (watched (telling (forms.Object c) n moment) id k answers).0 (watched (telling forms.Text n moment) id k answers).0
-kind_says c n moment id kinds.Clock answers small past given told = say_none
-kind_says c n moment id (kinds.Mode on) answers small past given told = say_none
 kind_says c n moment id (kinds.Frame octets) answers small past given told = frame_says {A = Unit {0}} c n moment id octets answers (frame_at octets) refl small past given (λ f e. fault_wide {A = Unit {0}} octets f e) told
+kind_says _ _ _ _ _ _ _ _ _ _ = say_none
 
 -- ---- what is written
 
@@ -163,24 +157,14 @@ frame_found t u id (Err f) answers = refl
 frame_found t u id (Ok f) answers = refl
 
 kind_found : {A : Type 0} (t u : Telling) (id : List ℕ) (k : EventKind A) (answers : List Seen) → (watched t id k answers).1 ≡ (watched u id k answers).1
-kind_found t u id kinds.Clock answers = refl
-kind_found t u id (kinds.Mode on) answers = refl
 kind_found t u id (kinds.Frame octets) answers = frame_found {A = Unit {0}} t u id (frame_at octets) answers
+kind_found _ _ _ _ _ = refl
 
 -- the text of an event in a form, by its answers
 written_so : {A : Type 0} (form : Form) (period : ℕ) (id : List ℕ) (texts : Form → EventText A) (before : List (ℕ × Event A)) (e : ℕ × Event A) (written : List ℕ × Bool)
     (w : WatchesEvent (telling form e.0 e.1.moment) period id before e (Ok (texts form before e))) → texts form before e ≡ written → written.0 ≡ (watched (telling form e.0 e.1.moment) id e.1.kind w.answers).0
 written_so form period id texts before e written w is =
     ap (λ (x : List ℕ × Bool). x.0) (sym is ∙ told_so form period id texts before e w)
-
-watch_json : {A : Type 0} (period : ℕ) (id : List ℕ) (texts : Form → EventText A) → IsWide period → AreWatchTexts period id texts → EventsAreJson (exactly_each texts)
-watch_json period id texts wide are c before e written given is =
-    let w = are (forms.Object c) before e in
-    subst AreJsonLines (sym (written_so (forms.Object c) period id texts before e written w is))
-    (kind_says c e.0 e.1.moment id e.1.kind w.answers given.number given.moment given.kind (answers_small period _ w.earlier w.answers wide w.are_seen)).are_json
-
-pub watch_is_json : {A C F : Type 0} → WatchIsJson A C F
-watch_is_json {A} {C} {F} period id texts wide are = json_lines C F (exactly_each texts) (watch_json period id texts wide are)
 
 pub watch_says : {A : Type 0} (period : ℕ) (id : List ℕ) (texts : Form → EventText A) → IsWide period → AreWatchTexts period id texts → SayEach (exactly_each texts)
 watch_says period id texts wide are c before e objects lines given is also =
@@ -198,3 +182,6 @@ watch_says period id texts wide are c before e objects lines given is also =
           ∙ ap (λ (answers : List Seen). (watched as_text id e.1.kind answers).1) same
           ∙ ap found (sym (told_so forms.Text period id texts before e v) ∙ also),
     )
+
+pub watch_is_json : {A C F : Type 0} → WatchIsJson A C F
+watch_is_json {A} {C} {F} period id texts wide are = json_said C F (exactly_each texts) (λ before e. (_, refl)) (watch_says period id texts wide are)

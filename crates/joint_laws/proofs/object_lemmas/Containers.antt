@@ -3,7 +3,7 @@ use Rattle.std.proofs.Common.{◌≡◌, ℕ, suc, ◌≤◌, Bool, true, false,
 use Rattle.std.specs.Prelude.{flat_map}
 use Rattle.std.specs.List.{concat}
 use Rattle.json.specs.Token.{Token}
-use Rattle.json.specs.Json.{Json, null, boolean, number, string, array, object, Items, no_items, item, Members, no_members, member}
+use Rattle.json.specs.Json.{Json, null, array, object, Items, no_items, item, Members, no_members, member}
 use Rattle.json.specs.Print.{ends, escape, print, print_from}
 use Rattle.json.specs.Strict.{AreDistinct, ItemsHaveUniqueKeys, MembersHaveUniqueKeys, keys}
 use Rattle.json.specs.Tree.{ItemsHaveNumbers, MembersHaveNumbers, items_depth, items_tokens, json_tokens, members_depth, members_tokens}
@@ -27,12 +27,9 @@ after-append c (t ∷ ts) us = after-append (ends t) ts us
 
 mutual
   after_value : (j : Json) (c : Bool) → after c (json_tokens j) ≡ true
-  after_value null c = refl
-  after_value (boolean b) c = refl
-  after_value (number s) c = refl
-  after_value (string s) c = refl
   after_value (array js) c = after_items js false
   after_value (object ms) c = after_members ms false
+  after_value _ _ = refl
 
   after_items : (js : Items) (c : Bool) → after c (items_tokens js) ≡ true
   after_items no_items c = refl
@@ -46,11 +43,7 @@ mutual
 with_comma : (j : Json) → print_from true (json_tokens j) ≡ 44 ∷ print (json_tokens j)
 unfolding print_from
 with_comma null = refl
-with_comma (boolean b) = refl
-with_comma (number s) = refl
-with_comma (string s) = refl
-with_comma (array js) = refl
-with_comma (object ms) = refl
+with_comma _ = refl
 
 -- a value, and more tokens behind it
 then_tokens : (j : Json) (ts : List Token) → print_from false (json_tokens j ++ ts) ≡ print (json_tokens j) ++ print_from true ts
@@ -66,40 +59,36 @@ then_tokens_too j ts =
 -- each text is that of the value in its place
 abbrev pub AreTextsOf : ℕ → Items → List (List ℕ) → Type 0
 AreTextsOf n no_items [] = Unit {0}
-AreTextsOf n no_items (text ∷ texts) = ⊥
-AreTextsOf n (item j js) [] = ⊥
 AreTextsOf n (item j js) (text ∷ texts) = IsTextOf n j text × AreTextsOf n js texts
+AreTextsOf _ _ _ = ⊥
 
 more_items : (n : ℕ) (js : Items) (texts : List (List ℕ)) → AreTextsOf n js texts → print_from true (items_tokens js) ≡ flat_map behind_comma texts ++ 93 ∷ []
 unfolding print_from
 more_items n no_items [] vs = refl
-more_items n no_items (text ∷ texts) vs = absurd vs
-more_items n (item j js) [] vs = absurd vs
 more_items n (item j js) (text ∷ texts) vs =
     then_tokens_too j (items_tokens js)
     ∙ ap (λ (l : List ℕ). (44 ∷ print (json_tokens j)) ++ l) (more_items n js texts vs.1)
     ∙ ap (λ (l : List ℕ). (44 ∷ l) ++ (flat_map behind_comma texts ++ 93 ∷ [])) vs.0.printed
     ∙ sym (append_assoc (44 ∷ text) (flat_map behind_comma texts) (93 ∷ []))
+more_items _ _ _ vs = absurd vs
 
 array_printed : (n : ℕ) (js : Items) (texts : List (List ℕ)) → AreTextsOf n js texts → print (json_tokens (array js)) ≡ objects.array texts
 unfolding print_from
 array_printed n no_items [] vs = refl
-array_printed n no_items (text ∷ texts) vs = absurd vs
-array_printed n (item j js) [] vs = absurd vs
 array_printed n (item j js) (text ∷ texts) vs =
     ap (λ (l : List ℕ). 91 ∷ l) (then_tokens j (items_tokens js)
     ∙ ap (λ (l : List ℕ). print (json_tokens j) ++ l) (more_items n js texts vs.1)
     ∙ ap (λ (l : List ℕ). l ++ (flat_map behind_comma texts ++ 93 ∷ [])) vs.0.printed)
     ∙ sym (append_assoc (91 ∷ text) (flat_map behind_comma texts) (93 ∷ []))
     ∙ sym (array_parts text texts)
+array_printed _ _ _ vs = absurd vs
 
 items_good : (n : ℕ) (js : Items) (texts : List (List ℕ)) → AreTextsOf n js texts → ItemsHaveNumbers js × ItemsHaveUniqueKeys js × (items_depth js ≤ n) × AreSigns (flat_map behind_comma texts)
 items_good n no_items [] vs = (tt, tt, omega arith, tt)
-items_good n no_items (text ∷ texts) vs = absurd vs
-items_good n (item j js) [] vs = absurd vs
 items_good n (item j js) (text ∷ texts) vs =
     let rest = items_good n js texts vs.1 in
     ((vs.0.numbers, rest.0), (vs.0.unique, rest.1), omega (arith, vs.0.nests, rest.2), (omega arith, signs_append text (flat_map behind_comma texts) vs.0.signs rest.3))
+items_good _ _ _ vs = absurd vs
 
 array_signs : (n : ℕ) (js : Items) (texts : List (List ℕ)) → AreTextsOf n js texts → AreSigns (objects.array texts)
 array_signs n js [] vs = (omega arith, (omega arith, tt))
@@ -177,10 +166,4 @@ object_signs v vs =
 pub object_is : (n : ℕ) (v : Named n) (vs : List (Named n)) → AreDistinct (names_of (v ∷ vs)) → IsTextOf (suc n) (object (members_of (v ∷ vs))) (objects.object (fields_of (v ∷ vs)))
 object_is n v vs distinct =
     let good = members_good (v ∷ vs) in
-    record {
-      printed = object_printed v vs;
-      numbers = good.0;
-      unique = (subst AreDistinct (sym good.3) distinct, good.1);
-      nests = omega (arith, good.2);
-      signs = object_signs v vs;
-    }
+    record { printed = object_printed v vs; numbers = good.0; unique = (subst AreDistinct (sym good.3) distinct, good.1); nests = omega (arith, good.2); signs = object_signs v vs }

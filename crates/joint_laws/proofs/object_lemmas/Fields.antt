@@ -129,15 +129,8 @@ quality_is n q =
     (are_distinct (codes "leapSecondsKnown" ∷ codes "clockFailure" ∷ codes "clockNotSynchronized" ∷ codes "timeAccuracy" ∷ []) refl)
 
 pub written_octets : (t : UtcTime) → t.quality < 256 → AreOctets (written_time t)
-written_octets t q zero = omega arith
-written_octets t q (suc zero) = omega arith
-written_octets t q (suc (suc zero)) = omega arith
-written_octets t q (suc (suc (suc zero))) = omega arith
-written_octets t q (suc (suc (suc (suc zero)))) = omega arith
-written_octets t q (suc (suc (suc (suc (suc zero))))) = omega arith
-written_octets t q (suc (suc (suc (suc (suc (suc zero)))))) = omega arith
 written_octets t q (suc (suc (suc (suc (suc (suc (suc zero))))))) = q
-written_octets t q (suc (suc (suc (suc (suc (suc (suc (suc i)))))))) = omega arith
+written_octets t q _ = omega arith
 
 -- ---- fields
 

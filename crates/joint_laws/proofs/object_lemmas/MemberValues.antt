@@ -155,8 +155,6 @@ mutual
 
   items_say : (ds : Items) (L : ℕ) (o : List ℕ) (texts : List (List ℕ)) → AreOctets o → SpellsItems ds L o → AreItems ds texts → ItemsSay (36 - 2 * L) texts (item_texts ds)
   items_say no_items L o [] small s is = record { json = json.no_items; are_texts = tt; says = refl }
-  items_say no_items L o (text ∷ texts) small s is = absurd is
-  items_say (item d ds) L o [] small s is = absurd is
   items_say (item d ds) L o (text ∷ texts) small (first, rest, spelled, more, parts) is =
       let all : AreOctets (first ++ rest) = subst AreOctets parts small in
       let one = member_says d L first text (front_octets first rest all) spelled is.0 in
@@ -166,6 +164,7 @@ mutual
         are_texts = (one.is_text, others.are_texts);
         says = ap (λ (l : List ℕ). l ∷ items_said others.json) one.says ∙ ap (λ (l : List (List ℕ)). value_text d ∷ l) others.says;
       }
+  items_say _ L _ _ _ _ is = absurd is
 
 -- the members of a data set are one value, which says what their words say
 pub members_say : (ds : List Data) (o text : List ℕ) → AreOctets o → SpellsAll ds 1 o → AreMembers ds text → Says 35 members_said text (members_text ds)

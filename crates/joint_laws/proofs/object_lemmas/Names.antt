@@ -28,14 +28,11 @@ none_at k (l ∷ ls) zero x h within = others k l (and_parts _ _ h).0
 none_at k (l ∷ ls) (suc j) x h within = none_at k ls j x (and_parts _ _ h).1 (omega arith)
 
 pub are_distinct : (ks : List (List ℕ)) → all_differ ks ≡ true → AreDistinct ks
-are_distinct [] h i j x lt within = absurd (omega arith)
-are_distinct (k ∷ ks) h zero zero x lt within = absurd (omega arith)
 are_distinct (k ∷ ks) h zero (suc j) x lt within = none_at k ks j x (and_parts _ _ h).0 (omega arith)
-are_distinct (k ∷ ks) h (suc i) zero x lt within = absurd (omega arith)
 are_distinct (k ∷ ks) h (suc i) (suc j) x lt within = are_distinct ks (and_parts _ _ h).1 i j x (omega arith) (omega arith)
+are_distinct _ h _ _ x lt within = absurd (omega arith)
 
 -- one name alone
 pub one_name : (k : List ℕ) → AreDistinct (k ∷ [])
 one_name k zero zero x lt within = absurd (omega arith)
-one_name k zero (suc j) x lt within = absurd (omega arith)
-one_name k (suc i) j x lt within = absurd (omega arith)
+one_name k _ _ x lt within = absurd (omega arith)

@@ -24,9 +24,8 @@ escape_plain (c ∷ text) plain =
     ap (λ (l : List ℕ). l ++ escape text) (escape_byte_plain c plain.0.no_quote plain.0.no_backslash plain.0.visible) ∙ ap (λ (l : List ℕ). c ∷ l) (escape_plain text plain.1)
 
 pub take_plain : (n : ℕ) (text : List ℕ) → ArePlain text → ArePlain (take n text)
-take_plain zero text p = tt
-take_plain (suc n) [] p = tt
 take_plain (suc n) (c ∷ text) p = (p.0, take_plain n text p.1)
+take_plain _ _ _ = tt
 
 at_plain : (text : List ℕ) (k : ℕ) → ArePlain text → k < length text → IsPlain (get_or text k 0)
 at_plain [] k p h = absurd (omega arith)

@@ -7,12 +7,8 @@ use Rattle.text_core.specs.Pieces.{boolean_text, quoted}
 
 -- a text stands between quotation marks, and all else as it is
 abbrev pub outer : Json → List ℕ → List ℕ
-outer null text = text
-outer (boolean b) text = text
-outer (number s) text = text
 outer (string s) text = quoted s
-outer (array js) text = text
-outer (object ms) text = text
+outer _ text = text
 
 -- members between their brackets, and all else behind its name
 abbrev pub wrapped : List ℕ → List ℕ → List ℕ

@@ -1,10 +1,10 @@
 -- The texts of control blocks: each stands in one line, and those that are BLOCKs are read as the block of their frame.
-use Rattle.std.proofs.Common.{◌≡◌, ℕ, zero, suc, ◌<◌, ◌≤◌, Bool, true, false, not, Option, Some, None, List, [], ◌∷◌, ◌++◌, length, drop, get_or, Result, Ok, Err, inl, inr, ap, sym, ◌∙◌, refl, arith}
-use Rattle.std.specs.Prelude.{IfSome, codes, ◌==◌, ◌||◌, if◌then◌else◌, option_map}
+use Rattle.std.proofs.Common.{◌≡◌, ℕ, zero, suc, ◌<◌, ◌≤◌, true, false, not, Option, Some, None, List, [], ◌∷◌, ◌++◌, length, drop, get_or, Result, Ok, Err, inl, inr, ap, sym, ◌∙◌, refl, arith}
+use Rattle.std.specs.Prelude.{IfSome, codes, ◌==◌, ◌||◌, option_map}
 use Rattle.std.specs.List.{concat, flat_map, list_all, onto_first}
 use Rattle.std.specs.Fmt.{decimal}
 use Rattle.std.specs.Str.Parse.{AllDigits}
-use Rattle.std.proofs.lemmas.Bool.{and_parts, cases_Bool, false≢true}
+use Rattle.std.proofs.lemmas.Bool.{and_parts, cases_Bool, cond-false, cond_both, false≢true}
 use Rattle.std.proofs.lemmas.Fmt.{decimal_is_IsNumeral}
 use Rattle.std.proofs.lemmas.List.Elements.{All-get_or}
 use Rattle.std.proofs.lemmas.Option.{none-some, same_Some}
@@ -27,17 +27,6 @@ use Rattle.inventory_engine.specs.Configuration.{Configuration, configuration_of
 use Rattle.inventory_engine.specs.Sightings.{block_parts, block_text, has_fields, named_parts, stream_parts, text_or_none}
 use Rattle.inventory_engine.specs.Laws.{block_told}
 use Rattle.inventory_engine.proofs.BlockBack.{blocks_back, two_are_bytes}
-use Rattle.joint_laws.proofs.text_lemmas.ScriptOrder.{either}
-
--- ---- tests
-
-pub chosen : {X : Type 0} (b : Bool) (x y : X) → b ≡ true → (if b then x else y) ≡ x
-chosen true x y e = refl
-chosen false x y e = absurd (false≢true e)
-
-pub otherwise : {X : Type 0} (b : Bool) (x y : X) → b ≡ false → (if b then x else y) ≡ y
-otherwise true x y e = absurd (false≢true (sym e))
-otherwise false x y e = refl
 
 -- ---- no LF stands in it
 
@@ -88,7 +77,7 @@ escaped_unbroken [] h = none_unbroken
 escaped_unbroken (x ∷ xs) h =
     let one = one_unbroken x (visible_is_none x h.0) in
     HasNo-append 10 (escaped x) (flat_map escaped xs)
-    (either (x == 34 || x == 92) (92 ∷ x ∷ []) (x ∷ []) Unbroken (λ marked. cons_unbroken 92 (x ∷ []) (λ e. absurd (omega (arith, e))) one) (λ plain. one))
+    (cond_both (x == 34 || x == 92) (92 ∷ x ∷ []) (x ∷ []) Unbroken (λ marked. cons_unbroken 92 (x ∷ []) (λ e. absurd (omega (arith, e))) one) (λ plain. one))
     (escaped_unbroken xs h.1)
 
 quoted_unbroken : (xs : List ℕ) → AreVisible xs → Unbroken (quoted xs)
@@ -135,7 +124,7 @@ module _ (app_id : ℕ) (p : GoosePdu (Unit {0})) (small : app_id < 65536) (spel
       (word_unbroken (codes "appid=") refl, (digits_unbroken app_id small, (word_unbroken (codes " ref=") refl, (quoted_unbroken p.gocb_ref spelled.gocb_ref, (word_unbroken (codes " set=") refl, (quoted_unbroken p.dat_set spelled.dat_set, (word_unbroken (codes " id=") refl, (optional_unbroken p.go_id spelled.go_id, (word_unbroken (codes " rev=") refl, (decimal_unbroken p.conf_rev rev_small, (word_unbroken (codes " entries=") refl, (decimal_unbroken (length p.members) few, tt))))))))))))
 
   pub block_unbroken : Unbroken (block_text block)
-  block_unbroken = either (has_fields block) (concat (block_parts block)) (concat (named_parts block)) Unbroken (λ has. fields_unbroken) (λ lacks. names_unbroken)
+  block_unbroken = cond_both (has_fields block) (concat (block_parts block)) (concat (named_parts block)) Unbroken (λ has. fields_unbroken) (λ lacks. names_unbroken)
 
 -- ---- what is a BLOCK
 
@@ -156,20 +145,15 @@ no_word : (w : List ℕ) (k : ℕ) → k < length w → is_hex_digit (get_or w k
 no_word w k within other = unmapped _ _ (no_octets_in w k (decode_sized w 2) within other refl)
 
 not_of : {A : Type 0} (w : List ℕ) (parts : List (List ℕ)) → word_in w ≡ None → block_of {A = A} (w ∷ parts) ≡ None
-not_of w [] h = refl
-not_of w (a ∷ []) h = refl
-not_of w (a ∷ b ∷ []) h = refl
-not_of w (a ∷ b ∷ c ∷ []) h = refl
-not_of w (a ∷ b ∷ c ∷ d ∷ []) h = refl
 not_of {A} w (a ∷ b ∷ c ∷ d ∷ e ∷ []) h = ap (λ (o : Option ℕ). block_with {A = A} o (text_in a) (text_in b) (text_in c) (number_by d) (number_by e)) h
-not_of w (a ∷ b ∷ c ∷ d ∷ e ∷ f ∷ more) h = refl
+not_of _ _ _ = refl
 
 -- a text that begins with `ap` or `id` is no BLOCK
 no_block : (A : Type 0) (x y : ℕ) (rest : List ℕ) → (x == 44) ≡ false → (y == 44) ≡ false → (k : ℕ) → k < 2 → ((p : List ℕ) → is_hex_digit (get_or (x ∷ y ∷ p) k 0) ≡ false) → block_in {A = A} (x ∷ y ∷ rest) ≡ None
 no_block A x y rest first second k within other =
     let w = cut_some 44 rest in
-    let later : cut_at 44 (y ∷ rest) ≡ (y ∷ w.0) ∷ w.1 = otherwise (y == 44) ([] ∷ cut_at 44 rest) (onto_first y (cut_at 44 rest)) second ∙ ap (onto_first y) w.2 in
-    let cut : cut_at 44 (x ∷ y ∷ rest) ≡ (x ∷ y ∷ w.0) ∷ w.1 = otherwise (x == 44) ([] ∷ cut_at 44 (y ∷ rest)) (onto_first x (cut_at 44 (y ∷ rest))) first ∙ ap (onto_first x) later in
+    let later : cut_at 44 (y ∷ rest) ≡ (y ∷ w.0) ∷ w.1 = cond-false (y == 44) ([] ∷ cut_at 44 rest) (onto_first y (cut_at 44 rest)) second ∙ ap (onto_first y) w.2 in
+    let cut : cut_at 44 (x ∷ y ∷ rest) ≡ (x ∷ y ∷ w.0) ∷ w.1 = cond-false (x == 44) ([] ∷ cut_at 44 (y ∷ rest)) (onto_first x (cut_at 44 (y ∷ rest))) first ∙ ap (onto_first x) later in
     ap (block_of {A = A}) cut ∙ not_of (x ∷ y ∷ w.0) w.1 (no_word (x ∷ y ∷ w.0) k (omega arith) (other w.0))
 
 no_name : (A : Type 0) (b : Configuration) → block_in {A = A} (concat (named_parts b)) ≡ None
@@ -185,6 +169,6 @@ block_says {A} app_id p block small spelled says =
     elim (cases_Bool (has_fields b)) [
       | inl has ↦ same_Some block (block_told b) (sym says ∙ blocks_back app_id p small spelled has)
       | inr lacks ↦
-          let text : block_text b ≡ concat (named_parts b) = otherwise (has_fields b) (concat (block_parts b)) (concat (named_parts b)) lacks in
+          let text : block_text b ≡ concat (named_parts b) = cond-false (has_fields b) (concat (block_parts b)) (concat (named_parts b)) lacks in
           absurd (none-some block (sym (no_name A b) ∙ (ap (λ (t : List ℕ). block_in {A = A} t) (sym text) ∙ says)))
     ]

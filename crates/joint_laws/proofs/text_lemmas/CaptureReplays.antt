@@ -22,7 +22,7 @@ use Rattle.subscribe_core.proofs.Acted.{acts_are_told}
 use Rattle.subscribe_core.proofs.Readings.{reads_one}
 use Rattle.subscribe_core.proofs.Runs.{entries_are_one, entries_exist, entries_stay}
 use Rattle.engine_core.specs.declared.ending.Ending.{Ending}
-use Rattle.engine_core.specs.declared.ending.Ending.TheVariants.{Done, Findings, InputFault, ReadFault, WriteFault, Memory}
+use Rattle.engine_core.specs.declared.ending.Ending.TheVariants.{Done, Findings, InputFault, ReadFault}
 use Rattle.engine_core.specs.EngineText.{AreAllowedTexts, ItemText, has_finding, joined_texts}
 use Rattle.engine_core.specs.CaptureRun.{capture_faults, capture_input}
 use Rattle.engine_core.specs.MadeRun.{made, with_each}
@@ -50,8 +50,6 @@ module _ {A : Type 0} (blocks : List (Block A)) (said : Says A) (apart : AreApar
       ((i : ℕ) (x : List (Entry A)) → slice_get rest i ≡ Some x → AreEntriesAt blocks (events_of before ++ events_of items) (length (events_of before) + i) x) →
       (joined_texts texts ≡ lines_at items rest) × (has_finding texts ≡ false)
   texts_are before [] [] next rest size each = (refl, refl)
-  texts_are before [] (w ∷ ws) next rest size each = absurd next
-  texts_are before (e ∷ items) [] next rest size each = absurd next
   texts_are before (e ∷ items) (w ∷ ws) next [] size each = absurd (omega arith)
   texts_are before (e ∷ items) (w ∷ ws) next (x ∷ rest) size each =
       let none : length (events_of before) + 0 ≡ length (events_of before) = omega arith in
@@ -59,10 +57,8 @@ module _ {A : Type 0} (blocks : List (Block A)) (said : Says A) (apart : AreApar
       subst (λ (i : ℕ). AreEntriesAt blocks (events_of before ++ e.1 ∷ events_of items) i x) none (each 0 x refl) in
       let more = texts_are (before ++ e ∷ []) items ws next.1 rest (omega arith) (entries_behind blocks before e items x rest each) in
       let text : w.text ≡ entry_lines e.0 x = sym (ap (λ (p : List ℕ × Bool). p.0) next.0) ∙ ap (λ (es : List (Entry A)). entry_lines e.0 es) (said_is before e (events_of items) x here) in
-      let finds : w.is_finding ≡ false = sym (ap (λ (p : List ℕ × Bool). p.1) next.0) in (
-        ap₂ (λ (a b : List ℕ). a ++ b) text more.0,
-        ap₂ (λ (a b : Bool). a || b) finds more.1,
-      )
+      let finds : w.is_finding ≡ false = sym (ap (λ (p : List ℕ × Bool). p.1) next.0) in (ap₂ (λ (a b : List ℕ). a ++ b) text more.0, ap₂ (λ (a b : Bool). a || b) finds more.1)
+  texts_are _ _ _ next _ _ _ = absurd next
 
   last_is : (items : List (ℕ × Event A)) (stop : Stop CaptureFault) (last : List ℕ × Bool) → StopsWith (replay_lines blocks said) items stop last → last ≡ (fault_lines stop, false)
   last_is items finished last (lines, none, is) = is ∙ ap (λ (l : List ItemText). (joined_texts l, has_finding l)) none
@@ -127,8 +123,7 @@ module _ {A : Type 0} (blocks : List (Block A)) (said : Says A) (apart : AreApar
       let no : true ≡ false = is.none_found in cc
   lines_left l entries have InputFault fault old new w = by_fault l entries have InputFault fault old new w
   lines_left l entries have ReadFault fault old new w = by_fault l entries have ReadFault fault old new w
-  lines_left l entries have WriteFault fault old new w = (w.by_none, front l entries have fault old new w)
-  lines_left l entries have Memory fault old new w = (w.by_none, front l entries have fault old new w)
+  lines_left l entries have _ fault old new w = (w.by_none, front l entries have fault old new w)
 
 -- the actions among the entries
 acts_exactly : {A : Type 0} (blocks : List (Block A)) (events : List (Event A)) (entries : List (List (Entry A))) → AreApart blocks → AreEntries blocks events entries → ActExactly blocks events entries

@@ -12,13 +12,7 @@ turn_is_change : {A : Type 0} (x : Entry A) → is_change x ≡ false → is_tur
 turn_is_change (says.Expired block) e = absurd (true≢false e)
 turn_is_change (says.Switched block) e = absurd (true≢false e)
 turn_is_change (says.Act block state sequence t members) e = absurd (true≢false e)
-turn_is_change (says.Refreshed block state sequence) e = refl
-turn_is_change (says.Repeated block state sequence) e = refl
-turn_is_change (says.Older block state sequence) e = refl
-turn_is_change (says.Refused block reason) e = refl
-turn_is_change says.NotSubscribed e = refl
-turn_is_change says.Sampled e = refl
-turn_is_change (says.Faulty fault) e = refl
+turn_is_change _ _ = refl
 
 turns_stay : {A : Type 0} (entries : List (Entry A)) → filter is_turn (changes entries) ≡ filter is_turn entries
 turns_stay [] = refl

@@ -4,7 +4,7 @@ use Rattle.std.specs.Prelude.{◌==◌, nat_le, nat_lt, codes}
 use Rattle.std.specs.Fmt.{decimal, digit_glyph, digits, digits_onto}
 use Rattle.std.specs.Io.BufRead.{ends_with_byte}
 use Rattle.std.specs.List.{list_all}
-use Rattle.std.proofs.lemmas.Bool.{and_from, leb-true}
+use Rattle.std.proofs.lemmas.Bool.{and_from, cond_both, leb-true}
 use Rattle.std.proofs.lemmas.Bool.Decides.{nat_tests}
 use Rattle.std.proofs.lemmas.List.{length-append}
 use Rattle.std.proofs.lemmas.List.Elements.{All-get_or}
@@ -30,7 +30,6 @@ use Rattle.script_core.specs.declared.script.ScriptCause.TheVariants as script
 use Rattle.text_core.specs.Names.{name_of_cause, name_of_list_cause}
 use Rattle.exchange_engines.specs.ExchangeNames.{name_of_script_cause}
 use Rattle.exchange_engines.specs.ScriptFaultLine.{cause_detail, script_fault_line}
-use Rattle.joint_laws.proofs.text_lemmas.ScriptOrder.{either}
 
 -- ---- texts without control characters, of so many octets at most
 
@@ -47,12 +46,12 @@ both_short n m a b p q =
     (list_all-append (λ x. nat_le 32 x) a b ∙ and_from (printed a) (printed b) p.0 q.0, omega (arith, l, r, length-append a b))
 
 glyph_printed : (d : ℕ) → nat_le 32 (digit_glyph false d) ≡ true
-glyph_printed d = either (nat_lt d 10) _ _ (λ (x : ℕ). nat_le 32 x ≡ true) (λ e. grind (arith, nat_tests)) (λ e. grind (arith, nat_tests))
+glyph_printed d = cond_both (nat_lt d 10) _ _ (λ (x : ℕ). nat_le 32 x ≡ true) (λ e. grind (arith, nat_tests)) (λ e. grind (arith, nat_tests))
 
 onto_short : (k n m : ℕ) (acc : List ℕ) → IsShort m acc → IsShort (k + m) (digits_onto k 10 false n acc)
 onto_short zero n m acc p = let l = p.1 in (p.0, omega (arith, l))
 onto_short (suc k) n m acc p =
-    either (n / 10 == 0) _ _ (IsShort (suc k + m)) (λ last. (more.0, let l = more.1 in omega (arith, l)))
+    cond_both (n / 10 == 0) _ _ (IsShort (suc k + m)) (λ last. (more.0, let l = more.1 in omega (arith, l)))
     (λ others. let w = onto_short k (n / 10) (suc m) (digit_glyph false (n % 10) ∷ acc) more in (w.0, let l = w.1 in omega (arith, l)))
   where
     more : IsShort (suc m) (digit_glyph false (n % 10) ∷ acc)
@@ -64,48 +63,17 @@ decimal_short n = let w = onto_short 64 n 0 [] (refl, omega arith) in (w.0, let 
 
 cause_short : (c : Cause) → IsShort 20 (name_of_cause c)
 cause_short causes.Ends = (refl, omega arith)
-cause_short causes.HighTag = (refl, omega arith)
-cause_short causes.Indefinite = (refl, omega arith)
-cause_short causes.LengthForm = (refl, omega arith)
-cause_short causes.LengthPastEnd = (refl, omega arith)
-cause_short causes.IntegerLength = (refl, omega arith)
-cause_short causes.UnexpectedTag = (refl, omega arith)
-cause_short causes.BooleanLength = (refl, omega arith)
-cause_short causes.IntegerRange = (refl, omega arith)
-cause_short causes.BitUnused = (refl, omega arith)
-cause_short causes.FixedLength = (refl, omega arith)
-cause_short causes.NotVisible = (refl, omega arith)
-cause_short causes.TooDeep = (refl, omega arith)
-cause_short causes.ElementMissing = (refl, omega arith)
-cause_short causes.ExtraOctets = (refl, omega arith)
-cause_short causes.EntryCount = (refl, omega arith)
-cause_short causes.AsduCount = (refl, omega arith)
-cause_short causes.FrameTooLong = (refl, omega arith)
-cause_short causes.EtherType = (refl, omega arith)
-cause_short causes.LengthField = (refl, omega arith)
-cause_short causes.Truncated = (refl, omega arith)
+cause_short _ = (refl, omega arith)
 
 lines_short : (c : ListCause) → IsShort 20 (name_of_list_cause c)
 lines_short lines.LineTooLong = (refl, omega arith)
-lines_short lines.LineForm = (refl, omega arith)
-lines_short lines.Moment = (refl, omega arith)
-lines_short lines.Hex = (refl, omega arith)
-lines_short lines.ListTooLong = (refl, omega arith)
-lines_short lines.ReadFailed = (refl, omega arith)
+lines_short _ = (refl, omega arith)
 
 script_short : (c : ScriptCause) → IsShort 120 (name_of_script_cause c ++ cause_detail c)
-script_short script.ScriptForm = (refl, omega arith)
-script_short script.FirstState = (refl, omega arith)
-script_short script.StepTimes = (refl, omega arith)
-script_short script.StepCount = (refl, omega arith)
-script_short script.Moment = (refl, omega arith)
-script_short script.Hex = (refl, omega arith)
 script_short (script.Members f) =
     let w = both_short 72 21 (codes "Members " ++ decimal f.place) (codes " " ++ name_of_cause f.cause) (both_short 8 64 (codes "Members ") (decimal f.place) (refl, omega arith) (decimal_short f.place)) (both_short 1 20 (codes " ") (name_of_cause f.cause) (refl, omega arith) (cause_short f.cause)) in
     (w.0, let l = w.1 in omega (arith, l))
-script_short script.EntriesDiffer = (refl, omega arith)
-script_short script.NotSpellable = (refl, omega arith)
-script_short script.WouldNotFit = (refl, omega arith)
+script_short _ = (refl, omega arith)
 
 -- ---- a comment is read as nothing
 
@@ -131,7 +99,7 @@ no_line_end text p k below is =
 
 says_nothing : {A : Type 0} (says : List ℕ) → event_of {A = A} Microseconds (without_cr (35 ∷ 32 ∷ says)) ≡ Ok None
 says_nothing {A} says =
-    either (ends_with_byte 13 (35 ∷ 32 ∷ says)) _ _ (λ (l : List ℕ). event_of {A = A} Microseconds l ≡ Ok None)
+    cond_both (ends_with_byte 13 (35 ∷ 32 ∷ says)) _ _ (λ (l : List ℕ). event_of {A = A} Microseconds l ≡ Ok None)
     (λ cr. let front : length (35 ∷ 32 ∷ says) - 1 ≡ suc (length says) = omega arith in subst (λ (n : ℕ). event_of {A = A} Microseconds (take n (35 ∷ 32 ∷ says)) ≡ Ok None) (sym front) refl) (λ none. refl)
 
 pub comment_listed : {A : Type 0} (n : ℕ) (text : List ℕ) → IsComment text → n < 1000000 → listing (event_rules {A = A}) (After Microseconds) End n text ≡ listing event_rules (After Microseconds) End (n + 1) []

@@ -16,14 +16,14 @@ use Rattle.block_core.specs.BlockText.{go_id_of}
 use Rattle.subscribe_core.specs.declared.entry.Entry.{Entry}
 use Rattle.subscribe_core.specs.declared.entry.Entry.TheVariants as says
 use Rattle.subscribe_core.specs.declared.entry.Reason.{Reason}
-use Rattle.subscribe_core.specs.declared.entry.Reason.TheVariants.{DatSet, GoId, ConfRev, Commissioning, Simulated, Entries, StateZero, LiveZero}
+use Rattle.subscribe_core.specs.declared.entry.Reason.TheVariants.{DatSet, GoId, ConfRev, Entries}
 use Rattle.subscribe_core.specs.declared.registers.Verdict.{Verdict}
-use Rattle.subscribe_core.specs.declared.registers.Verdict.TheVariants.{Act, Refreshed, Repeated, Older}
+use Rattle.subscribe_core.specs.declared.registers.Verdict.TheVariants.{Act}
 use Rattle.subscribe_core.specs.computed.Content.{reading_of}
 use Rattle.subscribe_core.specs.Entries.{AreOfContent, AreOfEach, AreReadEntriesAt, ExpiresAt, SwitchesAt}
 use Rattle.subscribe_core.specs.FrameEntry.{IsBlockEntry, IsFrameEntry, entry_of, reason_at}
 use Rattle.subscribe_core.specs.Matching.{first_of, has_other_id, holds, is_of, reasons}
-use Rattle.subscribe_core.specs.EventsRead.{Content, EventRead, FrameRead, OfClock, OfFault, OfGoose, OfMode, OfSampled}
+use Rattle.subscribe_core.specs.EventsRead.{Content, EventRead, FrameRead, OfFault, OfGoose, OfSampled}
 use Rattle.subscribe_core.specs.Simulation.{is_other_kind, mode_at, takes_simulated}
 use Rattle.subscribe_core.specs.Apart.{AreApart}
 use Rattle.subscribe_core.proofs.Readings.{reads_one}
@@ -46,9 +46,8 @@ bytes_same xs = (bytes_eq-Decides xs xs).1 refl
 
 -- an empty goID is not looked at, and another is the frame's own
 id_same : (id : Option (List ℕ)) → has_other_id (go_id_of (text_or_none id)) id ≡ false
-id_same None = refl
-id_same (Some []) = refl
 id_same (Some (c ∷ cs)) = ap not (bytes_same (c ∷ cs))
+id_same _ = refl
 
 module _ (A : Type 0) (f : FrameRead) where
   abbrev own : Block A
@@ -62,11 +61,8 @@ module _ (A : Type 0) (f : FrameRead) where
   none_of simulated DatSet h is = false≢true (ap not (sym (bytes_same f.pdu.dat_set)) ∙ h)
   none_of simulated GoId h is = false≢true (sym (id_same f.pdu.go_id) ∙ h)
   none_of simulated ConfRev h is = false≢true (ap not (sym (eq-eqb f.pdu.conf_rev f.pdu.conf_rev refl)) ∙ h)
-  none_of simulated Commissioning h is = is
-  none_of simulated Simulated h is = is
   none_of simulated Entries h is = false≢true (ap not (sym (eq-eqb (length f.pdu.members) (length f.pdu.members) refl)) ∙ h)
-  none_of simulated StateZero h is = is
-  none_of simulated LiveZero h is = is
+  none_of _ _ _ is = is
 
 -- the first reason that holds is one that holds
 first_holds : (p : Reason → Bool) (rs : List Reason) (r : Reason) → first_of p rs ≡ Some r → p r ≡ true
@@ -82,9 +78,7 @@ first_holds p (x ∷ rs) r e = elim (cases_Bool (p x)) [
 
 entry_as : (A : Type 0) (b : ℕ) (f : FrameRead) (v : Verdict) → IsAsConfigured (entry_of {A = A} b f v)
 entry_as A b f Act = tt
-entry_as A b f Refreshed = tt
-entry_as A b f Repeated = tt
-entry_as A b f Older = tt
+entry_as A _ _ _ = tt
 
 module _ {A : Type 0} where
   as_append : (a b : List (Entry A)) → AreAsConfigured a → AreAsConfigured b → AreAsConfigured (a ++ b)
@@ -116,8 +110,7 @@ module _ {A : Type 0} where
     said_as events i (OfGoose f) entries there is = subst AreAsConfigured (sym is.2) (frame_as events i f is.0 there.0 there.1 is.1, tt)
     said_as events i OfSampled entries there is = subst AreAsConfigured (sym is) (tt, tt)
     said_as events i (OfFault fault) entries there is = subst AreAsConfigured (sym is) (tt, tt)
-    said_as events i OfClock entries there is = subst AreAsConfigured (sym is) tt
-    said_as events i (OfMode on) entries there is = subst AreAsConfigured (sym is) tt
+    said_as _ _ _ _ _ is = subst AreAsConfigured (sym is) tt
 
     read_there : (items : List (ℕ × Event A)) (i : ℕ) (e : EventRead) → AreThere blocks items → slice_get (map reading_of (events_of items)) i ≡ Some e → IsThere blocks e.content
     read_there [] i e there at = absurd (none-some e at)

@@ -1,5 +1,6 @@
 -- The items of a list: the numbers of their lines are small, and their frames are octets.
 use Rattle.std.proofs.Common.{◌≡◌, ℕ, ◌+◌, ◌≤◌, Option, Some, None, List, [], ◌∷◌, length, Result, Ok, Err, refl, arith}
+use Rattle.std.proofs.lemmas.Bool.{cond_both}
 use Rattle.hex.proofs.HexLemmas.{decode_of-ok}
 use Rattle.ber_core.specs.Length.{AreOctets}
 use Rattle.list_core.specs.declared.device.InputEnd.{InputEnd}
@@ -17,13 +18,11 @@ use Rattle.list_core.specs.Items.{Listing, items_said, listing, put_said}
 use Rattle.list_core.specs.Lines.{Stop, reading}
 use Rattle.list_core.proofs.LineShapes.{frame-to}
 use Rattle.joint_laws.proofs.text_lemmas.ScriptLimits.{reading_few}
-use Rattle.joint_laws.proofs.text_lemmas.ScriptOrder.{either}
 
 -- the numbers of a frame are octets
 abbrev pub KeepsOctets : {A : Type 0} → EventKind A → Type 0
 KeepsOctets (kinds.Frame octets) = AreOctets octets
-KeepsOctets kinds.Clock = Unit {0}
-KeepsOctets (kinds.Mode on) = Unit {0}
+KeepsOctets _ = Unit {0}
 
 -- so are those of these items, whose lines have at most this number
 abbrev pub AreKept : {A : Type 0} → ℕ → List (ℕ × Event A) → Type 0
@@ -31,24 +30,21 @@ AreKept most [] = Unit {0}
 AreKept most (e ∷ es) = (e.0 ≤ most) × KeepsOctets e.1.kind × AreKept most es
 
 abbrev Kept : {A S : Type 0} → Result (Option (Event A) × S) ListCause → Type 0
-Kept (Ok (None, s)) = Unit {0}
 Kept (Ok (Some e, s)) = KeepsOctets e.kind
-Kept (Err why) = Unit {0}
+Kept _ = Unit {0}
 
 module _ (A : Type 0) where
   kind_kept : (unit : MomentUnit) (line : List ℕ) (moment : ℕ) (k : EventKind A) → event_of unit line ≡ Ok (Some (record { moment = moment; kind = k })) → KeepsOctets k
   kind_kept unit line moment (kinds.Frame octets) is = let w = frame-to A unit line moment octets is in (decode_of-ok w.1 octets w.4.2).3
-  kind_kept unit line moment kinds.Clock is = tt
-  kind_kept unit line moment (kinds.Mode on) is = tt
+  kind_kept _ _ _ _ _ = tt
 
   meant_kept : (unit : MomentUnit) (line : List ℕ) (r : Result (Option (Event A)) ListCause) → event_of unit line ≡ r → Kept (meant unit r)
-  meant_kept unit line (Ok None) is = tt
   meant_kept unit line (Ok (Some e)) is = kind_kept unit line e.moment e.kind is
-  meant_kept unit line (Err why) is = tt
+  meant_kept _ _ _ _ = tt
 
   said_kept : (s : EventLines) (line : List ℕ) → Kept {A = A} (event_said s line)
   said_kept First line =
-      either (is_version line) _ _ (Kept {A = A}) (λ e. tt) (λ e. meant_kept Milliseconds line (event_of Milliseconds line) refl)
+      cond_both (is_version line) _ _ (Kept {A = A}) (λ e. tt) (λ e. meant_kept Milliseconds line (event_of Milliseconds line) refl)
   said_kept (After unit) line = meant_kept unit line (event_of unit line) refl
 
   put_kept : (n most : ℕ) (r : Result (Option (Event A) × EventLines) ListCause) (rest : EventLines → Listing (Event A) ListCause) → n + 1 ≤ most → Kept r → ((s : EventLines) → AreKept most (rest s).items) → AreKept most (put_said n r rest).items

@@ -3,7 +3,7 @@ use Rattle.std.proofs.Common.{◌≡◌, ◌⊎◌, ℕ, zero, suc, ◌^◌, ◌
 use Rattle.std.specs.Prelude.{codes}
 use Rattle.std.specs.Str.{bytes_eq}
 use Rattle.std.specs.Fmt.{decimal}
-use Rattle.std.proofs.lemmas.Bool.{cases_Bool}
+use Rattle.std.proofs.lemmas.Bool.{cases_Bool, cond-false, cond-true}
 use Rattle.std.proofs.lemmas.List.{append-nil}
 use Rattle.std.proofs.lemmas.Option.{none-some, same_Some}
 use Rattle.std.proofs.lemmas.Slice.Eq.{bytes_eq-Decides}
@@ -36,7 +36,7 @@ use Rattle.frame_core.proofs.SpelledSpellable.{frame_spellable}
 use Rattle.block_core.specs.declared.block.Block.{Block}
 use Rattle.block_core.specs.BlockText.{block_in}
 use Rattle.subscribe_core.specs.computed.Content.{content_by, content_of, content_with}
-use Rattle.subscribe_core.specs.EventsRead.{Content, OfClock, OfFault, OfGoose, OfMode, OfSampled}
+use Rattle.subscribe_core.specs.EventsRead.{Content, OfGoose}
 use Rattle.engine_core.specs.computed.WholeText.{told_after}
 use Rattle.inventory_engine.specs.Configuration.{configuration_of}
 use Rattle.inventory_engine.specs.Sightings.{Key, Sighting, block_sighting, key_of, sightings_in, sightings_of, sightings_read, sightings_with, stream_sighting, stream_sightings}
@@ -47,7 +47,7 @@ use Rattle.inventory_engine.proofs.Appending.{sightings-push}
 use Rattle.inventory_engine.proofs.FirstLines.{one_first}
 use Rattle.inventory_engine.proofs.Newest.{newest_is}
 use Rattle.joint_laws.specs.ListedBlocks.{AreListed, IsBlockOf, ListedBlocksAreApart, LineTells}
-use Rattle.joint_laws.proofs.text_lemmas.BlockTexts.{block_says, block_unbroken, chosen, decimal_unbroken, no_stream, otherwise, word_unbroken}
+use Rattle.joint_laws.proofs.text_lemmas.BlockTexts.{block_says, block_unbroken, decimal_unbroken, no_stream, word_unbroken}
 use Rattle.joint_laws.proofs.text_lemmas.ListedItems.{AreKept, KeepsOctets, list_kept}
 
 -- ---- what an event shows
@@ -83,8 +83,7 @@ octets_show o (Err e) h is = inr ([], refl)
 
 event_shows : {A : Type 0} (k : EventKind A) → KeepsOctets k → Shows (sightings_of k)
 event_shows (kinds.Frame o) h = octets_show o (frame_at o) h refl
-event_shows kinds.Clock h = inr ([], refl)
-event_shows (kinds.Mode on) h = inr ([], refl)
+event_shows _ _ = inr ([], refl)
 
 -- ---- what its lines tell
 
@@ -107,9 +106,9 @@ after_ends : (front : List ℕ) (n : ℕ) (s : Sighting) (o : Option (List ℕ))
 after_ends front n s None h = line_ends front n (spaced_word (first_kind s.app_id)) s.text
 after_ends front n s (Some last) h = elim (cases_Bool (bytes_eq last s.text)) [
   | inl same ↦
-      subst (λ (l : List ℕ). Starts (front ++ l)) (sym (chosen (bytes_eq last s.text) [] (sighting_line n (spaced_word (changed_kind s.app_id)) s.text) same)) (subst Starts (sym (append-nil front)) h)
+      subst (λ (l : List ℕ). Starts (front ++ l)) (sym (cond-true (bytes_eq last s.text) [] (sighting_line n (spaced_word (changed_kind s.app_id)) s.text) same)) (subst Starts (sym (append-nil front)) h)
   | inr other ↦
-      subst (λ (l : List ℕ). Starts (front ++ l)) (sym (otherwise (bytes_eq last s.text) [] (sighting_line n (spaced_word (changed_kind s.app_id)) s.text) other)) (line_ends front n (spaced_word (changed_kind s.app_id)) s.text)
+      subst (λ (l : List ℕ). Starts (front ++ l)) (sym (cond-false (bytes_eq last s.text) [] (sighting_line n (spaced_word (changed_kind s.app_id)) s.text) other)) (line_ends front n (spaced_word (changed_kind s.app_id)) s.text)
 ]
 
 written_ends : (front : List ℕ) (n : ℕ) (earlier seen : List Sighting) → Starts front → Starts (front ++ written_of (in_lines n) earlier seen)
@@ -140,10 +139,7 @@ line_there text front rest n word told is starts small plain unbroken = record {
 -- the block of a frame of GOOSE is there
 abbrev pub IsThere : {A : Type 0} → List (Block A) → Content → Type 0
 IsThere blocks (OfGoose f) = (k : ℕ) × (slice_get blocks k ≡ Some (block_told (configuration_of f.app_id f.pdu)))
-IsThere blocks OfSampled = Unit {0}
-IsThere blocks (OfFault fault) = Unit {0}
-IsThere blocks OfClock = Unit {0}
-IsThere blocks (OfMode on) = Unit {0}
+IsThere _ _ = Unit {0}
 
 -- so are those of all events
 abbrev pub AreThere : {A : Type 0} → List (Block A) → List (ℕ × Event A) → Type 0
@@ -169,7 +165,7 @@ module _ {A : Type 0} (blocks : List (Block A)) (text : List ℕ) (listed : AreL
         | inl same ↦ seen_before last is ((bytes_eq-Decides last seen_now.text).0 same)
         | inr other ↦
             let line : line_after (in_lines n) seen_now (Some last) ≡ sighting_line n (codes " block-changed ") seen_now.text =
-            otherwise (bytes_eq last seen_now.text) [] (sighting_line n (codes " block-changed ") seen_now.text) other in
+            cond-false (bytes_eq last seen_now.text) [] (sighting_line n (codes " block-changed ") seen_now.text) other in
             absurd (listed.none_changes seen_now.text
             (line_there text front rest n (codes " block-changed ") seen_now.text (stands ∙ ap (λ (l : List ℕ). front ++ ((l ++ []) ++ rest)) line) starts small (word_unbroken (codes " block-changed ") refl) (block_unbroken app_id p low spelled)))
       ]
@@ -206,8 +202,7 @@ module _ {A : Type 0} (blocks : List (Block A)) (text : List ℕ) (listed : AreL
 
   event_there : (k : EventKind A) → KeepsOctets k → AllListed blocks (sightings_of k) → IsThere blocks (content_of k)
   event_there (kinds.Frame o) h all = octets_there o (frame_at o) h refl all
-  event_there kinds.Clock h all = tt
-  event_there (kinds.Mode on) h all = tt
+  event_there _ _ _ = tt
 
   -- ---- all events
 

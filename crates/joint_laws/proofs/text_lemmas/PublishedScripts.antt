@@ -131,8 +131,6 @@ module _ {A : Type 0} (B : Type 0) (p : Setup A) (t : Text (ScriptItem A) Script
   stops_told : (done left : List Call) (before es : List (ℕ × ScriptItem A)) (script : Listing (ScriptItem A) ScriptCause) → IsScriptSound p → before ++ es ≡ script.items → items_of_lines before ≡ script_of p done → items_of_lines es ≡ map item_of_call left → StopsBehind p done left → Stops done left before es script []
   unfolding told_after
   stops_told done [] before [] script sound parts stands left stops = (script.stop, refl, refl)
-  stops_told done [] before (e ∷ es) script sound parts stands left stops = absurd cc
-  stops_told done (c ∷ more) before [] script sound parts stands left stops = absurd cc
   stops_told done (c ∷ more) before (e ∷ es) script sound parts stands left stops = by_call (is.call p done before stands sound e.0 c)
     where
       here : e.1 ≡ item_of_call c
@@ -152,6 +150,7 @@ module _ {A : Type 0} (B : Type 0) (p : Setup A) (t : Text (ScriptItem A) Script
         ap (λ s. put_step t e.0 s (told_after t (before ++ e ∷ []) es script.stop)) (ap (λ (x : ScriptItem A). t.of_item before (e.0, x)) here ∙ w.ends),
         record { line = e.0; why = w.why; there = line; refused = w.refused; stops = refl },
       )
+  stops_told done _ before _ script sound parts stands left stops = absurd cc
 
   -- a call behind others writes what it gives
   call_is : (done more : List Call) (c : Call) (a : Option (Frame A)) (before : List (ℕ × ScriptItem A)) (n : ℕ) → IsScriptSound p → items_of_lines before ≡ script_of p done → AreAccepted p (done ++ c ∷ more) → IsAnswer p (trace_of_calls (done ++ c ∷ more)) (length done) a → t.of_item before (n, item_of_call c) ≡ Ok (answer_text (max (greatest_call_moment done) c.moment) a, false)

@@ -44,10 +44,9 @@ with_count m request (Some f) rest = omega arith
 
 -- a call sends one frame at most
 sent_count : {A : Type 0} (m : ℕ) (calls : List Call) (answers : List (Option (Frame A))) → length (sent_from m calls answers) ≤ length calls
-sent_count m [] answers = omega arith
-sent_count m (c ∷ cs) [] = omega arith
 sent_count m (c ∷ cs) (a ∷ answers) =
     omega (arith, with_count (max m c.moment) c.request a (sent_from (max m c.moment) cs answers), sent_count (max m c.moment) cs answers)
+sent_count m _ _ = omega arith
 
 -- what is sent is octets where each frame is
 octets_sent : {A : Type 0} (m : ℕ) (request : Request) (a : Option (Frame A)) (rest : List (Sent A)) → ((f : Frame A) → a ≡ Some f → AreOctets (written_frame f)) → SendsOctets rest → SendsOctets (with_frame m request a rest)
@@ -55,10 +54,9 @@ octets_sent m request None rest each more = more
 octets_sent m request (Some f) rest each more = (All-from_get_or (λ (x : ℕ). x < 256) (written_frame f) 0 (λ i below. each f refl i), more)
 
 all_octets_sent : {A : Type 0} (m : ℕ) (calls : List Call) (answers : List (Option (Frame A))) → ((i : ℕ) (f : Frame A) → slice_get answers i ≡ Some (Some f) → AreOctets (written_frame f)) → SendsOctets (sent_from m calls answers)
-all_octets_sent m [] answers each = tt
-all_octets_sent m (c ∷ cs) [] each = tt
 all_octets_sent m (c ∷ cs) (a ∷ answers) each =
     octets_sent (max m c.moment) c.request a (sent_from (max m c.moment) cs answers) (λ f e. each 0 f (ap (λ (o : Option _). Some o) e)) (all_octets_sent (max m c.moment) cs answers (λ i. each (suc i)))
+all_octets_sent _ _ _ _ = tt
 
 -- the frame that a call gives is written as octets where its change is
 answer_octets : {A : Type 0} (p : Setup A) (calls : List Call) (i : ℕ) (f : Frame A) → SaysOctets p calls → AreAccepted p calls → IsAnswer p (trace_of_calls calls) i (Some f) → AreOctets (written_frame f)

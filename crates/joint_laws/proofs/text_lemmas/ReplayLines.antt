@@ -43,8 +43,6 @@ entries_behind {A} blocks before e items x rest each i y at =
 entries_written : {A : Type 0} (blocks : List (Block A)) (t : Text (Event A) ListCause) (stop : Stop (ItemFault ListCause)) → AreApart blocks → IsReplayText blocks t → (before items : List (ℕ × Event A)) (rest : List (List (Entry A))) → length rest ≡ length items → ((i : ℕ) (x : List (Entry A)) → slice_get rest i ≡ Some x → AreEntriesAt blocks (events_of before ++ events_of items) (length (events_of before) + i) x) → told_after t before items stop ≡ account items rest t stop
 unfolding told_after
 entries_written blocks t stop apart is before [] [] size each = refl
-entries_written blocks t stop apart is before [] (x ∷ rest) size each = absurd (omega arith)
-entries_written blocks t stop apart is before (e ∷ items) [] size each = absurd (omega arith)
 entries_written {A} blocks t stop apart is before (e ∷ items) (x ∷ rest) size each =
     ap (λ s. put_step t e.0 s (told_after t next items stop)) (step_is blocks t apart is before e.0 e.1 (events_of items) x here)
     ∙ ap (put_step t e.0 (Ok (entry_lines e.0 x, false))) (entries_written blocks t stop apart is next items rest (omega arith) (entries_behind blocks before e items x rest each))
@@ -55,6 +53,7 @@ entries_written {A} blocks t stop apart is before (e ∷ items) (x ∷ rest) siz
 
     here : AreEntriesAt blocks (events_of before ++ e.1 ∷ events_of items) (length (events_of before)) x
     here = let none : length (events_of before) + 0 ≡ length (events_of before) = omega arith in subst (λ (i : ℕ). AreEntriesAt blocks (events_of before ++ e.1 ∷ events_of items) i x) none (each 0 x refl)
+entries_written blocks t stop apart is before _ _ size each = absurd (omega arith)
 
 pub replays_write_entries : {A : Type 0} → ReplaysWriteEntries A
 replays_write_entries {A} blocks entries t l apart are is = record {

@@ -20,26 +20,19 @@ AllTaken p done [] = Unit {0}
 AllTaken p done (c ∷ cs) = IsAnswered p done c.request × AllTaken p (done ++ c ∷ []) cs
 
 all_accepted : {A : Type 0} (p : Setup A) (cs done : List Call) → AllTaken p done cs → (i : ℕ) (change : Change) → option_map (λ (c : Call). c.request) (slice_get cs i) ≡ Some (Changed change) → Accepts p (done ++ take i cs) change
-all_accepted p [] done w zero change e = absurd cc
-all_accepted p [] done w (suc i) change e = absurd cc
 all_accepted p (c ∷ cs) done w zero change e = subst (λ (l : List Call). Accepts p l change) (sym (append-nil done)) (subst (IsAnswered p done) here w.0)
   where
     here : c.request ≡ Changed change
     here = cc
 all_accepted p (c ∷ cs) done w (suc i) change e = subst (λ (l : List Call). Accepts p l change) (append_assoc done (c ∷ []) (take i cs)) (all_accepted p cs (done ++ c ∷ []) w.1 i change e)
+all_accepted p [] done w _ change e = absurd cc
 
 -- of any calls those up to the first change that is refused
 abbrev UpToRefused : {A : Type 0} → Setup A → List Call → List Call → Type 0
 UpToRefused p done cs = (calls : List Call) × (left : List Call) × (cs ≡ calls ++ left) × AllTaken p done calls × StopsBehind p (done ++ calls) left
 
 one_more : {A : Type 0} (p : Setup A) (done cs : List Call) (c : Call) → IsAnswered p done c.request → UpToRefused p (done ++ c ∷ []) cs → UpToRefused p done (c ∷ cs)
-one_more p done cs c taken w = (
-  c ∷ w.0,
-  w.1,
-  ap (λ (l : List Call). c ∷ l) w.2,
-  (taken, w.3),
-  subst (λ (l : List Call). StopsBehind p l w.1) (append_assoc done (c ∷ []) w.0) w.4,
-)
+one_more p done cs c taken w = (c ∷ w.0, w.1, ap (λ (l : List Call). c ∷ l) w.2, (taken, w.3), subst (λ (l : List Call). StopsBehind p l w.1) (append_assoc done (c ∷ []) w.0) w.4)
 
 -- a call is taken before those behind it, or refused
 call_judged : {A : Type 0} (p : Setup A) → AreSteps p.table → (done cs : List Call) (c : Call) → UpToRefused p (done ++ c ∷ []) cs → UpToRefused p done (c ∷ cs)

@@ -1,6 +1,6 @@
 -- Texts of whole lines, and that commands write such.
-use Rattle.std.proofs.Common.{◌≡◌, ◌∙◌, ℕ, zero, suc, ◌+◌, ◌<◌, Bool, true, false, eqb, List, [], ◌∷◌, ◌++◌, length, take, get_or, All, ap, sym, refl, subst, arith, append_assoc}
-use Rattle.std.specs.Prelude.{Option, Some, None, Result, Ok, Err, codes, slice_get, if◌then◌else◌}
+use Rattle.std.proofs.Common.{◌≡◌, ◌∙◌, ℕ, suc, ◌<◌, Bool, true, false, eqb, List, [], ◌∷◌, ◌++◌, length, take, get_or, ap, sym, refl, subst, arith, append_assoc}
+use Rattle.std.specs.Prelude.{Option, Some, None, Result, Ok, Err, codes, if◌then◌else◌}
 use Rattle.std.specs.List.{concat, flat_map, onto_first}
 use Rattle.std.specs.Fmt.{decimal}
 use Rattle.std.specs.Str.{bytes_eq}
@@ -12,8 +12,6 @@ use Rattle.list_core.specs.declared.event.EventKind.TheVariants as kinds
 use Rattle.list_core.specs.Cuts.{cut_at}
 use Rattle.list_core.specs.EventText.{mode_text}
 use Rattle.list_core.proofs.Cuts.{cut_some}
-use Rattle.frame_core.specs.declared.frame.Apdu.{Apdu}
-use Rattle.frame_core.specs.declared.frame.Apdu.TheVariants as apdus
 use Rattle.frame_core.specs.declared.frame.Frame.{Frame}
 use Rattle.frame_core.specs.computed.FrameReading.{frame_at}
 use Rattle.subscribe_core.specs.declared.entry.Entry.{Entry}
@@ -21,15 +19,14 @@ use Rattle.subscribe_core.specs.declared.entry.Entry.TheVariants as says
 use Rattle.subscribe_core.specs.declared.watch.Seen.{Seen}
 use Rattle.object_core.specs.declared.counted.Form.{Form}
 use Rattle.object_core.specs.declared.counted.Form.TheVariants.{Text}
-use Rattle.text_core.specs.LineText.{clock_line, fault_line}
+use Rattle.text_core.specs.LineText.{fault_line}
 use Rattle.text_core.specs.Names.{name_of_cause}
 use Rattle.text_core.specs.ValueText.{members_text, time_text}
-use Rattle.engine_core.specs.declared.style.Style.{Style}
 use Rattle.engine_core.specs.declared.style.Style.TheVariants.{Lines, Dated}
 use Rattle.engine_core.specs.Dated.{dated}
 use Rattle.engine_core.specs.DatedLaws.{IsLines, last_part}
 use Rattle.engine_core.specs.EngineText.{AreAllowedTexts, ItemText}
-use Rattle.engine_core.specs.EventsText.{EventAllows, EventText, exactly_each, over_allowed}
+use Rattle.engine_core.specs.EventsText.{EventAllows, exactly_each, over_allowed}
 use Rattle.frame_engines.specs.CheckObject.{check_event_in}
 use Rattle.frame_engines.specs.CheckText.{frame_notes, note_unless, notes}
 use Rattle.frame_engines.specs.FrameText.{apdu_text, apdu_word, envelope_text, frame_line, trailer_text}
@@ -37,10 +34,10 @@ use Rattle.frame_engines.specs.ShowObject.{show_allows}
 use Rattle.frame_engines.specs.ShowText.{answer_line, kind_line, show_event}
 use Rattle.exchange_engines.specs.ExchangeNames.{name_of_reason}
 use Rattle.exchange_engines.specs.EntryText.{entry_head, entry_line, entry_lines, pair_line, pair_text}
-use Rattle.exchange_engines.specs.ReplayText.{Says, entries_in}
+use Rattle.exchange_engines.specs.ReplayText.{entries_in}
 use Rattle.exchange_engines.specs.SampleLine.{Sample, sample_line, seen_word}
-use Rattle.exchange_engines.specs.WatchText.{AreWatchTexts, frame_watched, sample_lines, samples_in, telling, watched}
-use Rattle.inventory_engine.specs.BlocksText.{AreBlocksTexts, line_after, sighting_line}
+use Rattle.exchange_engines.specs.WatchText.{frame_watched, sample_lines, samples_in, telling, watched}
+use Rattle.inventory_engine.specs.BlocksText.{line_after, sighting_line}
 use Rattle.inventory_engine.specs.BlocksText as blocks_text
 use Rattle.inventory_engine.specs.Sightings.{Sighting}
 use Rattle.engine_core.proofs.Ends.{no_end}
@@ -132,10 +129,7 @@ at_feed front = line _ front [] refl none
 -- the texts of a run, by those of its events
 of_events : {A C F : Type 0} (allows : Form → EventAllows A) →
     ((before : List (ℕ × Event A)) (e : ℕ × Event A) (written : List ℕ × Bool) → allows Text before e written → IsLines written.0) → TextIsLines C F allows
-of_events {A} {C} {F} allows each = record {
-  of_event = each;
-  of_run = λ last_line items texts are. λ k w h. at items texts last_line are k w h;
-} where
+of_events {A} {C} {F} allows each = record { of_event = each; of_run = λ last_line items texts are. λ k w h. at items texts last_line are k w h } where
   at : (items : List (ℕ × Event A)) (texts : List ItemText) (last_line : F → List ℕ) → AreAllowedTexts (over_allowed {C = C} (allows Text) last_line) items texts →
       (k : ℕ) (w : ItemText) → k < length texts → IsLines (get_or texts k w).text
   at [] texts last_line are k w h = absurd (omega (arith, h, are.one_each))
@@ -174,9 +168,8 @@ notes_end n octets (Err f) = fault_ends n f
 notes_end n octets (Ok f) = join _ _ (note_ends _ n (codes " not-written") _ refl) (note_ends _ n (codes " destination") _ refl)
 
 kind_notes_end : {A : Type 0} (n : ℕ) (kind : EventKind A) → AreLines (notes n kind)
-kind_notes_end n kinds.Clock = none
-kind_notes_end n (kinds.Mode on) = none
 kind_notes_end n (kinds.Frame octets) = notes_end n octets (frame_at octets)
+kind_notes_end _ _ = none
 
 pub check_is_lines : {A C F : Type 0} → CheckIsLines A C F
 check_is_lines = of_events (exactly_each check_event_in) (λ before e written is. subst (λ (w : List ℕ × Bool). IsLines w.0) is (whole _ (kind_notes_end e.0 e.1.kind)))
@@ -204,9 +197,8 @@ sample_ends : (n : ℕ) (s : Sample) (seen : Seen) → AreLines (sample_line n s
 sample_ends n s seen = at_feed (decimal n ++ (codes " " ++ decimal s.position) ++ (codes " " ++ decimal s.count) ++ seen_word seen)
 
 samples_end : (n moment : ℕ) (samples : List Sample) (answers : List Seen) → AreLines (sample_lines (telling Text n moment) samples answers)
-samples_end n moment [] answers = none
-samples_end n moment (s ∷ samples) [] = none
 samples_end n moment (s ∷ samples) (answer ∷ answers) = join _ _ (sample_ends n s answer) (samples_end n moment samples answers)
+samples_end _ _ _ _ = none
 
 frame_watched_ends : {A : Type 0} (n moment : ℕ) (id : List ℕ) (r : Result (Frame A) Fault) (answers : List Seen) → AreLines (frame_watched (telling Text n moment) id r answers).0
 frame_watched_ends n moment id (Err f) answers = fault_ends n f
@@ -214,8 +206,7 @@ frame_watched_ends n moment id (Ok f) answers = samples_end n moment (samples_in
 
 watched_ends : {A : Type 0} (n moment : ℕ) (id : List ℕ) (kind : EventKind A) (answers : List Seen) → AreLines (watched (telling Text n moment) id kind answers).0
 watched_ends n moment id (kinds.Frame octets) answers = frame_watched_ends n moment id (frame_at octets) answers
-watched_ends n moment id kinds.Clock answers = none
-watched_ends n moment id (kinds.Mode on) answers = none
+watched_ends _ _ _ _ _ = none
 
 -- what an answer has written
 abbrev written_in : {E : Type 0} → Result (List ℕ × Bool) E → List ℕ
@@ -233,11 +224,8 @@ sighting_ends n word text = at_feed (decimal n ++ word ++ text)
 
 line_after_ends : (n moment : ℕ) (s : Sighting) (newest : Option (List ℕ)) → AreLines (line_after (blocks_text.telling Text n moment) s newest)
 line_after_ends n moment s None = sighting_ends n _ s.text
-line_after_ends n moment s (Some newest) = go (bytes_eq newest s.text)
-  where
-    go : (b : Bool) → AreLines (if b then [] else sighting_line n (blocks_text.spaced_word (blocks_text.changed_kind s.app_id)) s.text)
-    go true = none
-    go false = sighting_ends n _ s.text
+line_after_ends n moment s (Some newest) =
+    elim (bytes_eq newest s.text) as (λ (b : Bool). AreLines (if b then [] else sighting_line n (blocks_text.spaced_word (blocks_text.changed_kind s.app_id)) s.text)) [ true ↦ none | false ↦ sighting_ends n _ s.text ]
 
 lines_of_sightings : (n moment : ℕ) (earlier seen : List Sighting) (lines : List (List ℕ)) → blocks_text.AreLines (blocks_text.telling Text n moment) earlier seen lines → AreLines (concat lines)
 lines_of_sightings n moment earlier seen [] are = none

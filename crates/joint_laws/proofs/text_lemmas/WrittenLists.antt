@@ -81,8 +81,6 @@ lines_told n rest = record { text = lines_from n rest; found = false; stop = fin
 lines_are : {A : Type 0} (blocks : List (Block A)) (t : Text (Event A) ListCause) → AreApart blocks → IsReplayText blocks t → (before : List (ℕ × Event A)) (n : ℕ) (es : List (Event A)) (rest : List (List (Entry A))) → length rest ≡ length es → ((i : ℕ) (x : List (Entry A)) → slice_get rest i ≡ Some x → AreEntriesAt blocks (events_of before ++ es) (length (events_of before) + i) x) → told_after t before (numbered n es) finished ≡ lines_told n rest
 unfolding told_after
 lines_are blocks t apart is before n [] [] size each = refl
-lines_are blocks t apart is before n [] (x ∷ rest) size each = absurd (omega arith)
-lines_are blocks t apart is before n (e ∷ es) [] size each = absurd (omega arith)
 lines_are {A} blocks t apart is before n (e ∷ es) (x ∷ rest) size each =
     ap (λ s. put_step t n s (told_after t next (numbered (n + 1) es) finished)) (step_is blocks t apart is before n e es x here) ∙
     ap (put_step t n (Ok (entry_lines n x, false))) (lines_are blocks t apart is next (n + 1) es rest (omega arith) after)
@@ -106,6 +104,7 @@ lines_are {A} blocks t apart is before n (e ∷ es) (x ∷ rest) size each =
     after i y at =
         subst (λ (j : ℕ). AreEntriesAt blocks (events_of next ++ es) j y) (more i)
         (subst (λ (l : List (Event A)). AreEntriesAt blocks l (length (events_of before) + suc i) y) same (each (suc i) y at))
+lines_are blocks t apart is before n _ _ size each = absurd (omega arith)
 
 -- a list that is written and ended so is replayed by the lines of the entries
 pub ended_lists_replay : {A : Type 0} (blocks : List (Block A)) (events : List (Event A)) (entries : List (List (Entry A))) (end : List ℕ) (t : Text (Event A) ListCause) →
@@ -143,10 +142,7 @@ answer_size {A} p calls i f held accepted w =
     let fit = (change_accepted p calls at.0 w.c w.change accepted at.2).fit w.k in
     subst HasSize (sym w.is_frame) (
       behind_some p.control.destination _ _ held.to,
-      elim (cases_lt 1600 (length (written_frame (frame p.control p.table (state_number p.first w.c) w.change w.k)))) [
-        | inl long ↦ absurd (fit (inr long))
-        | inr short ↦ omega arith
-      ],
+      elim (cases_lt 1600 (length (written_frame (frame p.control p.table (state_number p.first w.c) w.change w.k)))) [ inl long ↦ absurd (fit (inr long)) | inr short ↦ omega arith ],
     )
 
 with_can : {A : Type 0} (B : Type 0) (m : ℕ) (request : Request) (a : Option (Frame A)) (rest : List (Sent A)) → m < 10 ^ 18 → ((f : Frame A) → a ≡ Some f → HasSize f) → SendsOctets (with_frame m request a rest) → (SendsOctets rest → CanBeListed (published_events {B = B} rest)) → CanBeListed (published_events {B = B} (with_frame m request a rest))
@@ -154,12 +150,11 @@ with_can B m request None rest short size octets can = can octets
 with_can B m request (Some f) rest short size octets can = (((short, size f refl), octets.0), can octets.1)
 
 sent_can : {A : Type 0} (B : Type 0) (m : ℕ) (calls : List Call) (answers : List (Option (Frame A))) → m < 10 ^ 18 → MomentsAreShort calls → ((i : ℕ) (f : Frame A) → slice_get answers i ≡ Some (Some f) → HasSize f) → SendsOctets (sent_from m calls answers) → CanBeListed (published_events {B = B} (sent_from m calls answers))
-sent_can B m [] answers small short size octets = tt
-sent_can B m (c ∷ cs) [] small short size octets = tt
 sent_can {A} B m (c ∷ cs) (a ∷ answers) small short size octets =
     let next : max m c.moment < 10 ^ 18 = let first : c.moment < 10 ^ 18 = short.0 in omega arith in
     with_can B (max m c.moment) c.request a (sent_from (max m c.moment) cs answers) next (λ f e. size 0 f (ap (λ (o : Option (Frame A)). Some o) e)) octets
     (sent_can B (max m c.moment) cs answers next short.1 (λ i f e. size (suc i) f e))
+sent_can B _ _ _ _ _ _ _ = tt
 
 -- there are as many events as frames
 events_counted : {A : Type 0} (B : Type 0) (sent : List (Sent A)) → length (published_events {B = B} sent) ≡ length sent

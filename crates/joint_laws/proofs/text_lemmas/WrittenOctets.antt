@@ -4,7 +4,7 @@ use Rattle.std.specs.Prelude.{◌==◌, ℤ, pos, nat_lt, IfOk, IfSome}
 use Rattle.std.specs.Int.{bytes_high_first}
 use Rattle.std.proofs.lemmas.Bool.Decides.{nat_tests}
 use Rattle.std.specs.List.{AllByRecursion, list_all}
-use Rattle.std.proofs.lemmas.Bool.{and_parts, ltb-true}
+use Rattle.std.proofs.lemmas.Bool.{and_parts, cond_both, ltb-true}
 use Rattle.ber_core.specs.Contents.{AreVisible}
 use Rattle.ber_core.specs.Fields.{Field}
 use Rattle.ber_core.specs.computed.ContentsReading.{all_visible_at, boolean_at, integer_at, visible_at}
@@ -38,7 +38,6 @@ use Rattle.frame_core.specs.declared.frame.Frame.{Frame}
 use Rattle.frame_core.specs.declared.vlan_tag.VlanTag.{VlanTag}
 use Rattle.publish_core.specs.Frames.{Change, Setup, frame}
 use Rattle.publish_core.specs.Refusal.{CanBeSpelled}
-use Rattle.joint_laws.proofs.text_lemmas.ScriptOrder.{either}
 
 -- ---- octets, one after the other
 
@@ -62,14 +61,13 @@ drop_octets (suc n) [] h = no_octets
 drop_octets (suc n) (x ∷ o) h = drop_octets n o (λ i. h (suc i))
 
 take_octets : (n : ℕ) (o : List ℕ) → AreOctets o → AreOctets (take n o)
-take_octets zero o h = no_octets
-take_octets (suc n) [] h = no_octets
 take_octets (suc n) (x ∷ o) h = cons_octets x (take n o) (h zero) (take_octets n o (λ i. h (suc i)))
+take_octets _ _ _ = no_octets
 
 length_octets : (n : ℕ) → AreOctets (short_length n)
 unfolding short_length
 length_octets n =
-    either (nat_lt n 128) _ _ AreOctets (λ short. one_octet n (grind (arith, nat_tests)))
+    cond_both (nat_lt n 128) _ _ AreOctets (λ short. one_octet n (grind (arith, nat_tests)))
     (λ long. cons_octets (128 + number_size n) (bytes_high_first (number_size n) n) (grind arith) (big_bytes_octets (number_size n) n))
 
 element_octets : (id : ℕ) (contents : List ℕ) → id < 256 → AreOctets contents → AreOctets (written_element id contents)
@@ -111,7 +109,7 @@ IsWritten v = AreOctets (simple_contents v)
 bits_octets : (s : ℕ) (c : List ℕ) → AreOctets c → IfOk (bits_at s c) (λ x. (x.0 < 256) × AreOctets x.1)
 bits_octets s [] h = tt
 bits_octets s (unused ∷ more) h =
-    either (is_unused unused more) (Ok (unused, more)) (refused s causes.BitUnused) (λ (r : Result (ℕ × List ℕ) Fault). IfOk r (λ x. (x.0 < 256) × AreOctets x.1)) (λ good. (h zero, λ i. h (suc i)))
+    cond_both (is_unused unused more) (Ok (unused, more)) (refused s causes.BitUnused) (λ (r : Result (ℕ × List ℕ) Fault). IfOk r (λ x. (x.0 < 256) × AreOctets x.1)) (λ good. (h zero, λ i. h (suc i)))
     (λ bad. tt)
 
 counted_octets : (is_good : Bool) (p : ℕ) (c : List ℕ) → AreOctets c → IfOk (counted_if is_good p c) AreOctets
@@ -123,7 +121,7 @@ visible_read s c h = behind_any AreOctets (all_visible_at s c) (λ _. Ok c) (λ 
 
 utc_octets : (p : ℕ) (c : List ℕ) → AreOctets c → IfOk (utc_at p c) (λ t. t.quality < 256)
 unfolding utc_at
-utc_octets p c h = either (length c == 8) _ _ (λ (r : Result UtcTime Fault). IfOk r (λ t. t.quality < 256)) (λ good. h 7) (λ bad. tt)
+utc_octets p c h = cond_both (length c == 8) _ _ (λ (r : Result UtcTime Fault). IfOk r (λ t. t.quality < 256)) (λ good. h 7) (λ bad. tt)
 
 simple_octets : (k : SimpleKind) (p s : ℕ) (c : List ℕ) → AreOctets c → IfOk (simple_at k p s c) IsWritten
 unfolding simple_at
@@ -132,23 +130,14 @@ simple_octets of.BitString p s c h = behind _ IsWritten (bits_at s c) _ (bits_oc
 simple_octets of.Integer p s c h = behind_any IsWritten (integer_at least_signed most_signed p s c) _ integer_octets
 simple_octets of.Unsigned p s c h = behind_any IsWritten (unsigned_at p s c) _ (λ n. integer_octets (pos n))
 simple_octets of.FloatingPoint p s c h = behind AreOctets IsWritten (counted_if (is_few_octets (length c)) p c) _ (counted_octets (is_few_octets (length c)) p c h) (λ o w. w)
-simple_octets of.OctetString p s c h = h
 simple_octets of.VisibleString p s c h = behind AreOctets IsWritten (visible_at s c) _ (visible_read s c h) (λ o w. w)
 simple_octets of.BinaryTime p s c h = behind AreOctets IsWritten (counted_if (is_time_count (length c)) p c) _ (counted_octets (is_time_count (length c)) p c h) (λ o w. w)
-simple_octets of.MmsString p s c h = h
 simple_octets of.UtcTime p s c h = behind _ IsWritten (utc_at p c) _ (utc_octets p c h) time_octets
+simple_octets _ _ _ _ h = h
 
 identifier_small : (k : SimpleKind) → simple_identifier k < 256
 identifier_small of.Boolean = omega arith
-identifier_small of.BitString = omega arith
-identifier_small of.Integer = omega arith
-identifier_small of.Unsigned = omega arith
-identifier_small of.FloatingPoint = omega arith
-identifier_small of.OctetString = omega arith
-identifier_small of.VisibleString = omega arith
-identifier_small of.BinaryTime = omega arith
-identifier_small of.MmsString = omega arith
-identifier_small of.UtcTime = omega arith
+identifier_small _ = omega arith
 
 abbrev Reads : ReadsMembers → Type 0
 Reads members = (p : ℕ) (o : List ℕ) → AreOctets o → IfOk (members p o) (λ ds. AreOctets (written_all ds))
@@ -212,11 +201,10 @@ field_octets id None small w = no_octets
 field_octets id (Some x) small w = element_octets id (written_item x) small w
 
 fields_octets : (gs : List (Field contents.Kind Item)) (vs : List (Option Item)) → list_all (λ g. nat_lt g.identifier 256) gs ≡ true → AllByRecursion HasOctets vs → AreOctets (written_fields gs vs)
-fields_octets [] vs small w = no_octets
-fields_octets (g ∷ gs) [] small w = no_octets
 fields_octets (g ∷ gs) (v ∷ vs) small w =
     let parts = and_parts (nat_lt g.identifier 256) (list_all (λ h. nat_lt h.identifier 256) gs) small in
     append_octets (written_field g.identifier v) (written_fields gs vs) (field_octets g.identifier v (ltb-true g.identifier 256 parts.0) w.0) (fields_octets gs vs parts.1 w.1)
+fields_octets _ _ _ _ = no_octets
 
 word_octets : (n : ℕ) → AreOctets (written_word n)
 word_octets n = big_bytes_octets 2 n
