@@ -19,11 +19,8 @@ with_text true t texts = t ∷ texts
 with_text false t texts = texts
 
 pub given_first : (name : Text) (a : Argument) (more : List Argument) → given_as name (a ∷ more) ≡ with_text (bytes_eq (argument_name a) name) (argument_text a) (given_as name more)
-given_first name a more = go (bytes_eq (argument_name a) name) refl
-  where
-    go : (b : Bool) → bytes_eq (argument_name a) name ≡ b → given_as name (a ∷ more) ≡ with_text b (argument_text a) (given_as name more)
-    go true t = rw t refl
-    go false t = rw t refl
+given_first name a more =
+    (elim (bytes_eq (argument_name a) name) as (λ (b : Bool). bytes_eq (argument_name a) name ≡ b → given_as name (a ∷ more) ≡ with_text b (argument_text a) (given_as name more)) [ true ↦ λ t. rw t refl | false ↦ λ t. rw t refl ]) refl
 
 with_append : (b : Bool) (t : Text) (xs ys : List Text) → with_text b t (xs ++ ys) ≡ with_text b t xs ++ ys
 with_append true t xs ys = refl

@@ -95,11 +95,10 @@ spelled_goes s a t words (inr j) w rows_so n st pass =
 
 -- an option by its name in its two forms
 pub says_option : (s : Shape) (a : Rule) (name t : Text) → Joins s a t (name ++ (61 ∷ t)) → (IsValue t → Announces s a t name) → (words : List Text) → SaysOption name t words → Spelled s a t words
-says_option s a name t j k [] says = absurd says
 says_option s a name t j k (word ∷ []) says = inl (name ++ (61 ∷ t), ap (λ (x : Text). x ∷ []) says, j)
 says_option s a name t j k (word ∷ next ∷ []) says =
     inr (name, ap (λ (x : Text). x ∷ next ∷ []) says.0 ∙ ap (λ (x : Text). name ∷ x ∷ []) says.1, k says.2)
-says_option s a name t j k (word ∷ next ∷ x ∷ more) says = absurd says
+says_option _ _ _ _ _ _ _ says = absurd says
 
 -- where the value of an option is waited for
 abbrev pub waits_for : Text → List Row → Walk
@@ -199,11 +198,7 @@ module _ (s : Shape) (r : Reads s) where
 
   letter_joins : (t : Text) → is_attached t ≡ true → Joins s read_flag t (codes "-r" ++ t)
   letter_joins [] e = absurd (true≢false (sym e))
-  letter_joins (c ∷ cs) e = behind_letter c cs (apart (c == 61) e)
-    where
-      apart : (b : Bool) → not b ≡ true → b ≡ false
-      apart false f = refl
-      apart true f = absurd (true≢false (sym f))
+  letter_joins (c ∷ cs) e = behind_letter c cs ((elim (c == 61) as (λ (b : Bool). not b ≡ true → b ≡ false) [ false ↦ λ f. refl | true ↦ λ f. absurd (true≢false (sym f)) ]) e)
 
   letter_waits : Waits s read_flag (codes "-r")
   unfolding walked bundle_met chars encode_utf8 flags_pass
@@ -216,12 +211,11 @@ module _ (s : Shape) (r : Reads s) where
   }
 
   by_letter : (t : Text) (words : List Text) → SaysByLetter t words → Spelled s read_flag t words
-  by_letter t [] says = absurd says
   by_letter t (word ∷ []) (inl e) = inl (codes "-r" ++ (61 ∷ t), ap (λ (x : Text). x ∷ []) e, equals_joins t)
   by_letter t (word ∷ []) (inr e) = inl (codes "-r" ++ t, ap (λ (x : Text). x ∷ []) e.0, letter_joins t e.1)
   by_letter t (word ∷ next ∷ []) says =
       inr (codes "-r", ap (λ (x : Text). x ∷ next ∷ []) says.0 ∙ ap (λ (x : Text). codes "-r" ∷ x ∷ []) says.1, waits_announce s read_flag (codes "read") read_named (codes "-r") letter_waits t says.2)
-  by_letter t (word ∷ next ∷ x ∷ more) says = absurd says
+  by_letter _ _ says = absurd says
 
   -- each spelling of the name of a file
   pub file_spelled : (t : Text) (words : List Text) → Says (file t) words → Spelled s read_flag t words
@@ -359,13 +353,10 @@ module _ (o : Switch) (how : Reading) where
   set_true t e f = rw (e, f) refl
 
   set_for : (b : Bool) (ts : List Text) → are_true ts ≡ true → (ts ≡ []) ⊎ (how ≡ reading_by (switch_flag o)) → length ts ≡ (if b then 1 else 0) → set_by (row_for (switch_name o) how ts) ≡ b
-  set_for true [] all read count = absurd (omega (arith, count))
   set_for false [] all read count = refl
   set_for true (t ∷ []) all (inl e) count = let size = ap length e in absurd (omega (arith, size))
   set_for true (t ∷ []) all (inr e) count = set_true t e (sym ((bytes_eq-Decides (codes "true") t).0 (both (bytes_eq (codes "true") t) true all).0))
-  set_for false (t ∷ []) all read count = absurd (omega (arith, count))
-  set_for true (t ∷ u ∷ ts) all read count = absurd (omega (arith, count))
-  set_for false (t ∷ u ∷ ts) all read count = absurd (omega (arith, count))
+  set_for _ _ all read count = absurd (omega (arith, count))
 
 pub set_held : (s : Shape) (rows : List Row) (all : List Argument) (o : Switch) (b : Bool) → Hold s rows all → Each s all all → length (given_as (switch_name o) all) ≡ (if b then 1 else 0) → is_set (switch_name o) rows ≡ b
 set_held s rows all o b hold each count =

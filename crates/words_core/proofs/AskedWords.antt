@@ -7,6 +7,7 @@ use Rattle.std.specs.Str.{bytes_eq}
 use Rattle.std.specs.Str.Parse.{IsNumeral, digits_value}
 use Rattle.std.proofs.lemmas.Int.{ints}
 use Rattle.std.proofs.lemmas.Slice.Eq.{bytes_eq-Decides}
+use Rattle.std.proofs.lemmas.Bool.{cases_Bool}
 use Rattle.clap.specs.Lexer.{usize_max, without_minus}
 use Rattle.clap.specs.ValueTests.{accepts}
 use Rattle.clap.specs.Words.{Row, Shape, Text}
@@ -175,11 +176,7 @@ losses_asked_for periods words options from fits a =
 
 module _ (digits : Text) (are : IsNumeral 10 digits) where
   as_they_stand : without_minus digits ≡ digits
-  as_they_stand = go digits (no_minus digits are)
-    where
-      go : (ds : Text) → (slice_index ds 0 == 45) ≡ false → without_minus ds ≡ ds
-      go [] e = refl
-      go (d ∷ ds) e = rw e refl
+  as_they_stand = (elim digits as (λ (ds : Text). (slice_index ds 0 == 45) ≡ false → without_minus ds ≡ ds) [ [] ↦ λ e. refl | d ∷ ds ↦ λ e. rw e refl ]) (no_minus digits are)
 
   digits_pass : (period : ℕ) → digits_value 10 digits ≡ period → IsPeriod period → accepts false (parses.Signed (pos 2) (pos 65536)) digits ≡ true
   digits_pass period e range =
@@ -210,11 +207,10 @@ passes_as name p a = not (bytes_eq (argument_name a) name) || p (argument_text a
 
 given_pass : (name : Text) (p : Text → Bool) (args : List Argument) → list_all p (given_as name args) ≡ true → list_all (passes_as name p) args ≡ true
 given_pass name p [] e = refl
-given_pass name p (a ∷ args) e = go (bytes_eq (argument_name a) name) refl (given_pass name p args)
-  where
-    go : (b : Bool) → bytes_eq (argument_name a) name ≡ b → (list_all p (given_as name args) ≡ true → list_all (passes_as name p) args ≡ true) → list_all (passes_as name p) (a ∷ args) ≡ true
-    go true t later = let parts = both (p (argument_text a)) (list_all p (given_as name args)) (rw t at e) in rw (t, parts.0) (later parts.1)
-    go false t later = rw t (later (rw t at e))
+given_pass name p (a ∷ args) e = elim (cases_Bool (bytes_eq (argument_name a) name)) [
+  | inl t ↦ let parts = both (p (argument_text a)) (list_all p (given_as name args)) (rw t at e) in rw (t, parts.0) (given_pass name p args parts.1)
+  | inr t ↦ rw t (given_pass name p args (rw t at e))
+]
 
 all_both : (p q : Argument → Bool) (args : List Argument) → list_all p args ≡ true → list_all q args ≡ true → list_all (λ x. p x && q x) args ≡ true
 all_both p q [] e f = refl

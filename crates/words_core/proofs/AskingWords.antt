@@ -1,11 +1,12 @@
 -- Words without a fault ask for their task by its name alone.
-use Rattle.std.proofs.Common.{◌≡◌, ◌∙◌, ◌≤◌, arith, ℕ, Bool, true, false, true≢false, List, [], ◌∷◌, ◌++◌, Option, Some, None, option_map, option_and_then, unwrap_or, cond, refl, sym, ap, ap₂, subst, append_assoc, length}
+use Rattle.std.proofs.Common.{◌≡◌, ◌∙◌, ◌≤◌, arith, ℕ, Bool, true, false, true≢false, List, [], ◌∷◌, ◌++◌, Option, Some, None, option_map, option_and_then, unwrap_or, cond, refl, sym, ap, ap₂, subst, append_assoc, length, inl, inr}
 use Rattle.std.specs.Prelude.{codes, find, fold, Ok, Err}
 use Rattle.std.specs.Option.{option_map_or}
 use Rattle.std.specs.List.{list_all}
 use Rattle.std.specs.Str.{bytes_eq}
 use Rattle.std.proofs.lemmas.List.{append-nil}
 use Rattle.std.proofs.lemmas.Slice.Eq.{bytes_eq-Decides}
+use Rattle.std.proofs.lemmas.Bool.{cases_Bool}
 use Rattle.clap.specs.Words.{App, Row, Shape, Text, built, fault_of, first_of, one_of}
 use Rattle.clap.specs.Faults.{entered_fault, level_fault, walk_fault}
 use Rattle.clap.specs.Simple.{entered, label_of, names_of, rows_at}
@@ -51,11 +52,8 @@ no_wish = None
 met_name : (word name : Text) (xs : Names) → list_all (λ s. has_none s.1) xs ≡ true → option_map (λ s. s.0) (find (answers_to word) xs) ≡ Some name → name ≡ word
 met_name word name [] all e = cc
 met_name word name ((n, a ∷ more) ∷ xs) all e = absurd (true≢false (sym all))
-met_name word name ((n, []) ∷ xs) all e = go (bytes_eq n word) refl (met_name word name xs all)
-  where
-    go : (b : Bool) → bytes_eq n word ≡ b → (option_map (λ s. s.0) (find (answers_to word) xs) ≡ Some name → name ≡ word) → name ≡ word
-    go true t rest = let same : Some n ≡ Some name = rw t at e in sym (ap (λ (o : Option Text). unwrap_or o n) same) ∙ (bytes_eq-Decides n word).0 t
-    go false t rest = rest (rw t at e)
+met_name word name ((n, []) ∷ xs) all e =
+    elim (cases_Bool (bytes_eq n word)) [ inl t ↦ let same : Some n ≡ Some name = rw t at e in sym (ap (λ (o : Option Text). unwrap_or o n) same) ∙ (bytes_eq-Decides n word).0 t | inr t ↦ met_name word name xs all (rw t at e) ]
 
 entered_name : (name : Text) (words : List Text) (r : Text × List Row) → entered line (Some (name, words)) ≡ Some r → r.0 ≡ name
 entered_name name words r e = go (find (λ s. answers_to name (label_of s)) line.subs) refl
@@ -74,9 +72,8 @@ abbrev HasName : Subcommand → Type 0
 HasName c = (rows : List Row) (t : Asked) → c.task rows ≡ Some (Ok t) → name_of t ≡ c.shape.name
 
 abbrev pub asked_or : Asked → Option Meaning → Asked
-asked_or d None = d
 asked_or d (Some (Ok t)) = t
-asked_or d (Some (Err i)) = d
+asked_or d _ = d
 
 abbrev some_meaning : Meaning → Option Meaning
 some_meaning m = Some m
@@ -94,9 +91,8 @@ named_replay rows t e = let said = texts_in (codes "BLOCK") rows in said_named n
 
 watch_named : (n : Option ℕ) (id : Option Text) (t : Asked) → option_and_then {U = Meaning} (λ k. option_map {U = Meaning} (λ x. Ok (watch k x)) id) n ≡ Some (Ok t)
     → name_of t ≡ name_of (watch 0 [])
-watch_named None id t e = cc
-watch_named (Some n) None t e = cc
 watch_named (Some n) (Some id) t e = sym (ap (λ (o : Option Meaning). name_of (asked_or t o)) e)
+watch_named _ _ t e = cc
 
 named_watch : HasName watching
 named_watch rows t e = watch_named (option_and_then number_said (one_of (codes "period") rows)) (first_of (codes "id") rows) t e
@@ -262,10 +258,9 @@ no_task p word words t options m f e =
 -- words without a fault, and of a task without words of its own, ask for it, with their options over their file
 pub words_ask_with : (words : List Text) (t : Asked) (options : Options) → fault_of request_line words ≡ [] → request_of_words words ≡ Some (Ok (t, options)) → is_plain t ≡ true → length words ≤ usize_max → AreTexts words
     → AsksWith words t options (file_of_words words)
-words_ask_with [] t options f e plainly fits texts = cc
-words_ask_with (p ∷ []) t options f e plainly fits texts = cc
 words_ask_with (p ∷ word ∷ words) t options f e plainly fits texts = go (subcommand_met names idle word) refl
   where
     go : (o : Option Text) → subcommand_met names idle word ≡ o → AsksWith (p ∷ word ∷ words) t options (file_of_words (p ∷ word ∷ words))
     go (Some name) m = subcommand_asks p word name words t options plainly (omega (arith, fits)) texts.1.1 m f e
     go None m = absurd (no_task p word words t options m f e)
+words_ask_with _ t options f e plainly fits texts = cc

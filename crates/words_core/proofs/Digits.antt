@@ -8,11 +8,7 @@ use Rattle.clap.specs.Words.{Text}
 
 module _ (digits : Text) (are : IsNumeral 10 digits) where
   first_digit : IsInRange 48 57 (slice_index digits 0)
-  first_digit = go digits are
-    where
-      go : (ds : Text) → IsNumeral 10 ds → IsInRange 48 57 (slice_index ds 0)
-      go [] n = absurd (omega arith)
-      go (d ∷ ds) n = digit_from_value d n.1.0
+  first_digit = (elim digits as (λ (ds : Text). IsNumeral 10 ds → IsInRange 48 57 (slice_index ds 0)) [ [] ↦ λ n. absurd (omega arith) | d ∷ ds ↦ λ n. digit_from_value d n.1.0 ]) are
 
   pub no_minus : (slice_index digits 0 == 45) ≡ false
   no_minus = ne_eqb _ _ (λ e. omega (arith, first_digit))

@@ -7,12 +7,13 @@ use Rattle.std.specs.Str.{IsUtf8, bytes_eq, chars, encode_utf8_all}
 use Rattle.std.proofs.lemmas.Str.{encodes-chars}
 use Rattle.std.proofs.lemmas.List.{append-nil}
 use Rattle.std.proofs.lemmas.Slice.Eq.{bytes_eq-Decides}
+use Rattle.std.proofs.lemmas.Bool.{cases_Bool}
 use Rattle.clap.specs.Lexer.{long_of, name_and_value, short_of, usize_max}
 use Rattle.clap.specs.Kinds.{or_else, range_kinds}
 use Rattle.clap.specs.Words.{Kinds, Row, Rule, Shape, Text, first_of}
 use Rattle.clap.specs.declared.builder.value_parser.Reading.{Reading}
 use Rattle.clap.specs.Faults.{bundle_fault, flag_word_fault, flags_fault, long_fault, option_fault, other_fault, react_fault, level_fault, settle_fault, short_fault, turn_fault, use_fault, walk_fault}
-use Rattle.clap.specs.Walk.{Held, Waiting, Walk, arg_by_index, arg_by_long, arg_by_short, attached_value, has_long, has_row, has_short, idle, option, positional, reacted, nothing_held, rows_after, walk, walk_from, walked, with_default, bundle_met}
+use Rattle.clap.specs.Walk.{Held, Waiting, Walk, arg_by_index, arg_by_long, arg_by_short, attached_value, has_long, has_row, has_short, idle, option, reacted, nothing_held, rows_after, walk, walk_from, walked, with_default, bundle_met}
 use Rattle.clap.specs.declared.error.kind.ErrorKind.TheVariants as kind
 use Rattle.words_core.specs.CommandLine.{Asked, IsValue, is_flag}
 use Rattle.words_core.specs.RequestLine.{Argument, AreTexts, SayAll, Says, Switch, argument_name, argument_text, file, given_as, is_set, named_once, switch, switch_name, switch_word, switches}
@@ -54,11 +55,7 @@ Finds s has = (test : Rule → Bool) (P : Option Rule → Type 0) → P None →
     → ((o : Switch) → has (switch o) ≡ true → test (switch_flag o) ≡ true → P (Some (switch_flag o))) → P (find test s.rules)
 
 after_read : (test : Rule → Bool) (P : Option Rule → Type 0) → (test read_flag ≡ true → P (Some read_flag)) → (rest : Option Rule) → P rest → P (cond (test read_flag) (Some read_flag) rest)
-after_read test P read rest p = go (test read_flag) refl
-  where
-    go : (b : Bool) → test read_flag ≡ b → P (cond b (Some read_flag) rest)
-    go true e = read e
-    go false e = p
+after_read test P read rest p = (elim (test read_flag) as (λ (b : Bool). test read_flag ≡ b → P (cond b (Some read_flag) rest)) [ true ↦ λ e. read e | false ↦ λ e. p ]) refl
 
 pub finds_plain : (takes : Bool) (t : Asked) → Finds (plain_leaf takes t) (is_of takes)
 finds_plain true t test P none help read own = after_read test P read (find test (map switch_flag switches ++ help_flag ∷ [])) (found_in is_common test P none help switches refl own)
@@ -147,18 +144,12 @@ module _ (s : Shape) (has : Argument → Bool) (finds : Finds s has) (reads : Re
     plainly : long_of x ≡ None → short_of x ≡ None → bytes_eq x dashes ≡ false → Seen rows pending x
 
   unused_read : (value : Text) (rows : List Row) → use_fault s.args_override_self read_flag (value ∷ []) rows ≡ [] → has_row (codes "read") rows ≡ false
-  unused_read value rows e = go (has_row (codes "read") rows) refl
-    where
-      go : (b : Bool) → has_row (codes "read") rows ≡ b → b ≡ false
-      go true f = let bad : kind.ArgumentConflict ∷ [] ≡ [] = rw (f, reads.again) at e in cc
-      go false f = refl
+  unused_read value rows e =
+      (elim (has_row (codes "read") rows) as (λ (b : Bool). has_row (codes "read") rows ≡ b → b ≡ false) [ true ↦ λ f. let bad : kind.ArgumentConflict ∷ [] ≡ [] = rw (f, reads.again) at e in cc | false ↦ λ f. refl ]) refl
 
   unused_switch : (o : Switch) (rows : List Row) → use_fault s.args_override_self (switch_flag o) [] rows ≡ [] → has_row (switch_name o) rows ≡ false
-  unused_switch o rows e = go (has_row (switch_name o) rows) refl
-    where
-      go : (b : Bool) → has_row (switch_name o) rows ≡ b → b ≡ false
-      go true f = let bad : kind.ArgumentConflict ∷ [] ≡ [] = rw (f, reads.again) at e in cc
-      go false f = refl
+  unused_switch o rows e =
+      (elim (has_row (switch_name o) rows) as (λ (b : Bool). has_row (switch_name o) rows ≡ b → b ≡ false) [ true ↦ λ f. let bad : kind.ArgumentConflict ∷ [] ≡ [] = rw (f, reads.again) at e in cc | false ↦ λ f. refl ]) refl
 
   module _ (rows : List Row) (pending : Pending) where
     abbrev h : Held
@@ -193,11 +184,8 @@ module _ (s : Shape) (has : Argument → Bool) (finds : Finds s has) (reads : Re
     -- behind the letter `r`
     letter_seen : (x rest : Text) → x ≡ 45 ∷ 114 ∷ rest → option_fault s.rules s.args_override_self read_flag (attached_value rest) h ≡ [] → Seen rows pending x
     letter_seen x [] is e = asks (inr is) e
-    letter_seen x (y ∷ ys) is e = go (y == 61) refl
-      where
-        go : (b : Bool) → (y == 61) ≡ b → Seen rows pending x
-        go true t = names_seen x ys (inr (inl (is ∙ ap (λ (c : ℕ). 45 ∷ 114 ∷ c ∷ ys) (eqb-true y 61 t)))) (rw t at e)
-        go false t = names_seen x (y ∷ ys) (inr (inr (is, rw t refl))) (rw t at e)
+    letter_seen x (y ∷ ys) is e =
+        elim (cases_Bool (y == 61)) [ inl t ↦ names_seen x ys (inr (inl (is ∙ ap (λ (c : ℕ). 45 ∷ 114 ∷ c ∷ ys) (eqb-true y 61 t)))) (rw t at e) | inr t ↦ names_seen x (y ∷ ys) (inr (inr (is, rw t refl))) (rw t at e) ]
 
     -- the first of short names is this one, and then those
     first_seen : (x flags : Text) (c : ℕ) (r : List ℕ) (next : Held → Kinds) → x ≡ 45 ∷ flags → flags ≡ encode_utf8_all (c ∷ r)
@@ -244,8 +232,7 @@ module _ (s : Shape) (has : Argument → Bool) (finds : Finds s has) (reads : Re
   no_stray : (waiting : Waiting) → is_free waiting ≡ true → (rows : List Row) (pending : Pending) (x : Text) → long_of x ≡ None → short_of x ≡ None → bytes_eq x dashes ≡ false
       → turn_fault s [] (state waiting rows pending) x ≡ [] → ⊥
   no_stray (option id) g rows pending x l k d e = absurd (true≢false (sym g))
-  no_stray idle g rows pending x l k d e = stray s.is_leaf (rw none at (rw (d, l, k) at e))
-  no_stray positional g rows pending x l k d e = stray s.is_leaf (rw none at (rw (d, l, k) at e))
+  no_stray _ g rows pending x l k d e = stray s.is_leaf (rw none at (rw (d, l, k) at e))
 
   to_mark : (waiting : Waiting) (rows : List Row) (pending : Pending) → walked s.rules [] (state waiting rows pending) dashes ≡ marked waiting rows pending
   unfolding walked
@@ -288,11 +275,8 @@ module _ (s : Shape) (has : Argument → Bool) (finds : Finds s has) (reads : Re
   Few done = (id : Text) → length (given_as id done) ≤ 1
 
   not_given : (rows : List Row) (done : List Argument) (id : Text) → Hold s rows done → has_row id rows ≡ false → given_as id done ≡ []
-  not_given rows done id hold unused = go (given_as id done) (sym (ap is_some (hold id)) ∙ sym (has_at id rows) ∙ unused)
-    where
-      go : (l : List Text) → is_some (row_for id (how_read s id) l) ≡ false → l ≡ []
-      go [] e = refl
-      go (x ∷ xs) e = absurd (true≢false e)
+  not_given rows done id hold unused =
+      (elim (given_as id done) as (λ (l : List Text). is_some (row_for id (how_read s id) l) ≡ false → l ≡ []) [ [] ↦ λ e. refl | x ∷ xs ↦ λ e. absurd (true≢false e) ]) (sym (ap is_some (hold id)) ∙ sym (has_at id rows) ∙ unused)
 
   few_more : (done : List Argument) (a : Argument) → Few done → given_as (argument_name a) done ≡ [] → Few (done ++ a ∷ [])
   few_more done a few new id = go (bytes_eq (argument_name a) id) refl
@@ -485,9 +469,8 @@ module _ (s : Shape) (has : Argument → Bool) (finds : Finds s has) (reads : Re
   -- ---- what such words give
 
   one_named : (how : Reading) (ts : List Text) → length ts ≤ 1 → ts ≡ named_once (option_and_then (λ r. slice_get r.values 0) (row_for (codes "read") how ts))
-  one_named how [] few = refl
-  one_named how (x ∷ []) few = refl
   one_named how (x ∷ y ∷ ts) few = absurd (omega (arith, few))
+  one_named _ _ _ = refl
 
   pub behind : ((all : List Argument) → ((id : Text) → length (given_as id all) ≤ 1) → (a : Argument) → has a ≡ true → Handled s all a) → Leaves s
       → (words : List Text) → length words ≤ usize_max → AreTexts words → level_fault s [] nothing_held words false [] ≡ [] → Behind has (rows_after s.rules [] words) words

@@ -4,6 +4,7 @@ use Rattle.std.specs.Prelude.{codes}
 use Rattle.std.specs.List.{list_all}
 use Rattle.std.specs.Str.{bytes_eq}
 use Rattle.std.proofs.lemmas.Slice.Eq.{bytes_eq-Decides}
+use Rattle.std.proofs.lemmas.Bool.{cases_Bool}
 use Rattle.clap.specs.Lexer.{long_of, usize_max}
 use Rattle.clap.specs.Words.{Row, Rule, Shape, Text}
 use Rattle.clap.specs.Simple.{filled, with_index}
@@ -80,10 +81,7 @@ module _ (s : Shape) (again : s.args_override_self ≡ false) where
     appends = false;
     once = inr most;
     goes = λ words says w rows_so n st fits may. subst (λ (l : List Text). Went s w l (puts false (switch_name o) (how_read s (switch_name o)) (codes "true") rows_so) (n + length l)) (sym says)
-        (switch_led o g w rows_so n st (elim may [
-          | inl bad ↦ absurd (true≢false (sym bad))
-          | inr unused ↦ unused
-        ]));
+        (switch_led o g w rows_so n st (elim may [ inl bad ↦ absurd (true≢false (sym bad)) | inr unused ↦ unused ]));
     gives = λ p t. (refl, subst (λ (x : Switch). how_read s (switch_name x) ≡ reading_by (switch_flag x)) (one_name o p t) (reads o g));
   }
 
@@ -106,10 +104,7 @@ set_handled : (s : Shape) (all : List Argument) (a : Argument)
 set_handled s all a goes apart most = record {
   appends = false;
   once = inr most;
-  goes = λ words says w rows_so n st fits may. goes words says w rows_so n st (elim may [
-    | inl bad ↦ absurd (true≢false (sym bad))
-    | inr unused ↦ unused
-  ]);
+  goes = λ words says w rows_so n st fits may. goes words says w rows_so n st (elim may [ inl bad ↦ absurd (true≢false (sym bad)) | inr unused ↦ unused ]);
   gives = λ o t. absurd (true≢false (sym t ∙ apart o));
 }
 
@@ -161,13 +156,10 @@ is_of_blocks (Some p) = bytes_eq p.0 (codes "BLOCK")
 put_values : (id : Text) (how : Reading) (ts : List Text) (t : Text) (rows : List Row)
     → with_values id how CommandLine (ts ++ t ∷ []) rows ≡ with_values id how CommandLine (t ∷ []) (with_values id how CommandLine ts rows)
 put_values id how ts t [] = let same = self_eq id in rw same refl
-put_values id how ts t (r ∷ rows) = go (bytes_eq r.id id) refl (put_values id how ts t rows)
-  where
-    go : (b : Bool) → bytes_eq r.id id ≡ b → with_values id how CommandLine (ts ++ t ∷ []) rows ≡ with_values id how CommandLine (t ∷ []) (with_values id how CommandLine ts rows)
-        → with_values id how CommandLine (ts ++ t ∷ []) (r ∷ rows) ≡ with_values id how CommandLine (t ∷ []) (with_values id how CommandLine ts (r ∷ rows))
-    go true u later = rw u (rw u (ap₂ (λ (v : List Text) (x : ValueSource). (record r { values = v; source = Some x }) ∷ rows) (sym (append_assoc r.values ts (t ∷ [])))
-        (strongest r.source ∙ sym (strongest (Some (stronger r.source CommandLine))))))
-    go false u later = rw u (rw u (ap (λ (l : List Row). r ∷ l) later))
+put_values id how ts t (r ∷ rows) = elim (cases_Bool (bytes_eq r.id id)) [
+  | inl u ↦ rw u (rw u (ap₂ (λ (v : List Text) (x : ValueSource). (record r { values = v; source = Some x }) ∷ rows) (sym (append_assoc r.values ts (t ∷ []))) (strongest r.source ∙ sym (strongest (Some (stronger r.source CommandLine))))))
+  | inr u ↦ rw u (rw u (ap (λ (l : List Row). r ∷ l) (put_values id how ts t rows)))
+]
 
 -- a text behind what is no text of a block
 next_alone : (waiting : Waiting) → is_free waiting ≡ true → (rows : List Row) (pending : Pending) → is_of_blocks pending ≡ false → (t : Text) → is_flag t ≡ false
@@ -177,11 +169,10 @@ next_alone (option id) g rows pending e t f = absurd (true≢false (sym g))
 next_alone idle g rows None e [] f = refl
 next_alone idle g rows None e (c ∷ cs) f = rw f (rw f refl)
 next_alone idle g rows (Some p) e [] f = rw e refl
-next_alone idle g rows (Some p) e (c ∷ cs) f = rw f (rw f (rw e refl))
 next_alone positional g rows None e [] f = refl
 next_alone positional g rows None e (c ∷ cs) f = rw f (rw f refl)
 next_alone positional g rows (Some p) e [] f = rw e refl
-next_alone positional g rows (Some p) e (c ∷ cs) f = rw f (rw f (rw e refl))
+next_alone _ g rows (Some p) e (c ∷ cs) f = rw f (rw f (rw e refl))
 
 -- and behind texts of blocks
 next_more : (waiting : Waiting) → is_free waiting ≡ true → (rows : List Row) (ts : List Text) (t : Text) → is_flag t ≡ false
@@ -189,9 +180,8 @@ next_more : (waiting : Waiting) → is_free waiting ≡ true → (rows : List Ro
 unfolding walked
 next_more (option id) g rows ts t f = absurd (true≢false (sym g))
 next_more idle g rows ts [] f = refl
-next_more idle g rows ts (c ∷ cs) f = rw f (rw f refl)
 next_more positional g rows ts [] f = refl
-next_more positional g rows ts (c ∷ cs) f = rw f (rw f refl)
+next_more _ g rows ts (c ∷ cs) f = rw f (rw f refl)
 
 either : (b : Bool) → ((b && true) || true) ≡ true
 either true = refl
@@ -203,11 +193,10 @@ text_passes (option id) g rows pending k t f = absurd (true≢false (sym g))
 text_passes idle g rows None k [] f = refl
 text_passes idle g rows None k (c ∷ cs) f = rw f (rw f refl)
 text_passes idle g rows (Some p) k [] f = rw k (either (bytes_eq p.0 (codes "BLOCK")))
-text_passes idle g rows (Some p) k (c ∷ cs) f = rw f (rw f (rw k (either (bytes_eq p.0 (codes "BLOCK")))))
 text_passes positional g rows None k [] f = refl
 text_passes positional g rows None k (c ∷ cs) f = rw f (rw f refl)
 text_passes positional g rows (Some p) k [] f = rw k (either (bytes_eq p.0 (codes "BLOCK")))
-text_passes positional g rows (Some p) k (c ∷ cs) f = rw f (rw f (rw k (either (bytes_eq p.0 (codes "BLOCK")))))
+text_passes _ g rows (Some p) k (c ∷ cs) f = rw f (rw f (rw k (either (bytes_eq p.0 (codes "BLOCK")))))
 
 each_passes : (ts : List Text) → list_all (λ (t : Text). true) ts ≡ true
 each_passes [] = refl
@@ -289,8 +278,7 @@ losses_read = record { by_long = refl; by_short = refl; by_id = refl; again = re
 abbrev pub is_of : Bool → Argument → Bool
 is_of takes (switch o) = takes && is_common o
 is_of takes (file name) = true
-is_of takes (valued name value) = false
-is_of takes (text t) = false
+is_of _ _ = false
 
 pub plain_takes : (t : Asked) → is_plain t ≡ true → (a : Argument) → is_of (takes_options t) a ≡ takes_argument t a
 plain_takes (replay blocks) e a = absurd (true≢false (sym e))
@@ -332,5 +320,4 @@ pub plain_handled : (takes : Bool) (t : Asked) (all : List Argument) → ((o : S
     → (x : Argument) → is_of takes x ≡ true → Handled (plain_leaf takes t) all x
 plain_handled takes t all once once_read (switch o) e = switch_handled (plain_leaf takes t) (plain_reads takes t).again o (plain_offers takes t o e) all (once o)
 plain_handled takes t all once once_read (file name) e = file_handled (plain_leaf takes t) (plain_reads takes t) all name once_read
-plain_handled takes t all once once_read (valued name value) e = absurd (true≢false (sym e))
-plain_handled takes t all once once_read (text b) e = absurd (true≢false (sym e))
+plain_handled _ _ _ _ _ _ e = absurd (true≢false (sym e))

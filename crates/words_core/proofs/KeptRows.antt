@@ -1,9 +1,10 @@
 -- What the matches of words without a fault keep of their arguments.
-use Rattle.std.proofs.Common.{◌≡◌, ◌&&◌, ℕ, zero, suc, Bool, true, false, true≢false, List, [], ◌∷◌, ◌++◌, length, drop, Option, Some, None, is_some, option_and_then, option_map, refl, sym, ap, subst, unwrap_or, ◌∙◌}
+use Rattle.std.proofs.Common.{◌≡◌, ◌&&◌, ℕ, zero, suc, Bool, true, false, true≢false, List, [], ◌∷◌, ◌++◌, length, drop, Option, Some, None, is_some, option_and_then, option_map, refl, sym, ap, subst, unwrap_or, ◌∙◌, inl, inr}
 use Rattle.std.specs.Prelude.{encode_utf8, find, fold, slice_get, if◌then◌else◌}
 use Rattle.std.specs.Option.{option_map_or}
 use Rattle.std.specs.Str.{bytes_eq, chars}
 use Rattle.std.proofs.lemmas.Slice.Eq.{bytes_eq-Decides}
+use Rattle.std.proofs.lemmas.Bool.{cases_Bool}
 use Rattle.clap.specs.Lexer.{long_of, short_of}
 use Rattle.clap.specs.Words.{Kinds, Row, Rule, Shape, Text, all_of, first_of, one_of, read_as}
 use Rattle.clap.specs.Kinds.{check_kinds, or_else, range_kinds}
@@ -11,7 +12,7 @@ use Rattle.clap.specs.Simple.{built_leaf, inherited, marked_built, with_leaf_not
 use Rattle.clap.specs.Facts.{explicit_source, unwrap_or_range}
 use Rattle.clap.specs.Faults.{action_fault, check_fault, bundle_fault, bundle_step_fault, defaults_fault, flag_word_fault, flags_fault, level_fault, long_fault, option_fault, other_fault, positional_fault, react_fault, repeat_fault, set_fault, settle_fault, short_fault, step_fault, stray_fault, turn_fault, use_fault, values_fault, walk_fault, word_fault}
 use Rattle.clap.specs.Takes.{is_given, value_passes}
-use Rattle.clap.specs.Walk.{Held, Names, Outcome, Step, Waiting, Walk, action_of, after_flag, after_step, arg_by_id, arg_by_index, arg_by_long, arg_by_short, at_row, attached_value, bundle, bundle_met, bundle_step, done, finished, flag_met, has_row, idle, is_pending, long_met, long_or_other, more_values, most_values, next, nothing_held, option, option_met, option_word, plain, plain_word, positional, reacted, reading_by, refused, row_text, settled, settled_rows, short_met, short_or_plain, subcommand, subcommand_met, subcommand_or_other, takes_several, takes_values, to_positional, trailing, used, used_by_id, value, values_or_missing, waits, walk, walk_from, walked, walked_from, with_default, with_values, without, word_met}
+use Rattle.clap.specs.Walk.{Held, Names, Outcome, Step, Waiting, Walk, action_of, after_flag, after_step, arg_by_id, arg_by_index, arg_by_long, arg_by_short, at_row, attached_value, bundle, bundle_met, bundle_step, done, finished, flag_met, has_row, is_pending, long_met, long_or_other, more_values, most_values, next, nothing_held, option, option_met, option_word, plain, plain_word, reacted, reading_by, refused, row_text, settled, settled_rows, short_met, short_or_plain, subcommand, subcommand_met, subcommand_or_other, takes_several, takes_values, to_positional, trailing, used, used_by_id, value, values_or_missing, waits, walk, walk_from, walked, walked_from, with_default, with_values, without, word_met}
 use Rattle.clap.specs.declared.builder.action.ArgAction.TheVariants.{Set}
 use Rattle.clap.specs.declared.builder.value_parser.Reading.{Reading}
 use Rattle.clap.specs.declared.error.kind.ErrorKind.{ErrorKind}
@@ -38,11 +39,8 @@ EachIs P (x ∷ xs) = P x × EachIs P xs
 -- the one is that is found, and passes
 pub found_is : {X : Type 0} (P : X → Type 0) (test : X → Bool) (xs : List X) → EachIs P xs → (x : X) → find test xs ≡ Some x → P x × (test x ≡ true)
 found_is P test [] each x e = cc
-found_is {X} P test (y ∷ ys) each x e = go (test y) refl (found_is P test ys each.1 x)
-  where
-    go : (b : Bool) → test y ≡ b → (find test ys ≡ Some x → P x × (test x ≡ true)) → P x × (test x ≡ true)
-    go true t later = let same : Some y ≡ Some x = rw t at e in subst (λ (z : X). P z × (test z ≡ true)) (ap (λ (o : Option X). unwrap_or o y) same) (each.0, t)
-    go false t later = later (rw t at e)
+found_is {X} P test (y ∷ ys) each x e =
+    elim (cases_Bool (test y)) [ inl t ↦ let same : Some y ≡ Some x = rw t at e in subst (λ (z : X). P z × (test z ≡ true)) (ap (λ (o : Option X). unwrap_or o y) same) (each.0, t) | inr t ↦ found_is P test ys each.1 x (rw t at e) ]
 
 -- where a level has no fault, its last checks pass
 pub level_checked : (s : Shape) (names : Names) (h : Held) (words : List Text) (has : Bool) (below : Kinds) → level_fault s names h words has below ≡ []
@@ -60,9 +58,7 @@ level_checked s names h words has below e =
 -- an argument that is required is given
 pub wanted : (help below argument : Bool) → check_kinds help below argument ≡ [] → argument ≡ false
 wanted false false false e = refl
-wanted false false true e = cc
-wanted false true argument e = cc
-wanted true below argument e = cc
+wanted _ _ _ e = cc
 
 -- the subcommands as they are built
 abbrev pub leaf : Shape → Shape
@@ -87,11 +83,7 @@ abbrev pub EachKeeps : Bool → (List Row → Type 0) → List Rule → Type 0
 EachKeeps again P = EachIs (Keeps again P)
 
 pub found_keeps : (again : Bool) (P : List Row → Type 0) (c : List Rule) → EachKeeps again P c → (test : Rule → Bool) → KeepsIf again P (find test c)
-found_keeps again P c all test = go (find test c) refl
-  where
-    go : (o : Option Rule) → find test c ≡ o → KeepsIf again P o
-    go None e = tt
-    go (Some a) e = (found_is (Keeps again P) test c all a e).0
+found_keeps again P c all test = (elim (find test c) as (λ (o : Option Rule). find test c ≡ o → KeepsIf again P o) [ None ↦ λ e. tt | Some a ↦ λ e. (found_is (Keeps again P) test c all a e).0 ]) refl
 
 module _ (c : List Rule) (again : Bool) (P : List Row → Type 0) (all : (test : Rule → Bool) → KeepsIf again P (find test c)) where
   used_by_id_keeps : (o : Option Rule) (values : List Text) (rows : List Row) → KeepsIf again P o → P rows → option_map_or (λ a. use_fault again a values rows) o [] ≡ [] → P (used_by_id o values rows)
@@ -161,9 +153,8 @@ module _ (c : List Rule) (again : Bool) (P : List Row → Type 0) (all : (test :
   option_word_keeps (Some a) id word h g = g
 
   plain_keeps : (waiting : Waiting) (word : Text) (h : Held) → P h.rows → P (plain_word c waiting word h).0.rows
-  plain_keeps idle word h g = g
   plain_keeps (option id) word h g = option_word_keeps (arg_by_id c id) id word h g
-  plain_keeps positional word h g = g
+  plain_keeps _ _ _ g = g
 
   after_flag_keeps : (waiting : Waiting) (word : Text) (h : Held) (o : Outcome) → P h.rows → P (after_flag c waiting word h o).0.rows
   after_flag_keeps waiting word h done g = g
@@ -251,11 +242,7 @@ abbrev pub HasNoDefaults : List Rule → Type 0
 HasNoDefaults = EachIs (λ a. a.defaults ≡ [])
 
 pub no_default : (a : Rule) (rows : List Row) → a.defaults ≡ [] → with_default rows a ≡ rows
-no_default a rows none = rw none (go (has_row a.id rows))
-  where
-    go : (b : Bool) → (if b then rows else rows) ≡ rows
-    go true = refl
-    go false = refl
+no_default a rows none = rw none (elim (has_row a.id rows) as (λ (b : Bool). (if b then rows else rows) ≡ rows) [ true ↦ refl | false ↦ refl ])
 
 pub no_defaults : (c : List Rule) (rows : List Row) → HasNoDefaults c → fold with_default rows c ≡ rows
 no_defaults [] rows none = refl

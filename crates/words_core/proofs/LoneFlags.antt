@@ -1,9 +1,10 @@
 -- What the words of a command may be that have no fault, where it has flags for help and the version alone.
-use Rattle.std.proofs.Common.{◌≡◌, ◌&&◌, ℕ, suc, Bool, true, false, not, List, [], ◌∷◌, length, Option, Some, None, is_some, cond, refl}
+use Rattle.std.proofs.Common.{◌≡◌, ◌&&◌, ℕ, suc, Bool, true, false, not, List, [], ◌∷◌, length, Option, Some, None, is_some, cond, refl, inl, inr}
 use Rattle.std.specs.Prelude.{drop, encode_utf8, find, slice_get}
 use Rattle.std.specs.Option.{option_map_or}
 use Rattle.std.specs.Str.{bytes_eq, chars}
 use Rattle.std.proofs.lemmas.Slice.Eq.{bytes_eq-Decides}
+use Rattle.std.proofs.lemmas.Bool.{cases_Bool}
 use Rattle.clap.specs.Lexer.{long_of, short_of}
 use Rattle.clap.specs.Words.{Kinds, Row, Rule, Shape, Text}
 use Rattle.clap.specs.Faults.{bundle_fault, flag_word_fault, flags_fault, long_fault, other_fault, short_fault, step_fault, turn_fault, walk_fault}
@@ -72,13 +73,12 @@ module _ (s : Shape) (names : Names) (flags : AreFlags s.rules) (none : arg_by_i
 
   short_or_fails : (word : Text) (o : Option Text) → option_map_or (λ bundle. bundle_fault s.rules s.args_override_self bundle h) o [] ≡ [] → Passes (short_or_plain s.rules idle word o h) → ⊥
   unfolding bundle_met
-  short_or_fails word None f e = stray_fails h e
-  short_or_fails word (Some []) f e = stray_fails h e
   short_or_fails word (Some (x ∷ xs)) f e = go (slice_get (chars (x ∷ xs)) 0) refl
     where
       go : (o : Option ℕ) → slice_get (chars (x ∷ xs)) 0 ≡ o → ⊥
       go None c = bundle_passes (length xs) (x ∷ xs) word c e
       go (Some k) c = bundle_fails (length xs) (x ∷ xs) k c f
+  short_or_fails _ _ _ e = stray_fails h e
 
   long_or_fails : (word : Text) (o : Option (Text × Option Text)) → flag_word_fault s.rules s.args_override_self o word h ≡ [] → Passes (long_or_other s.rules idle word o h) → ⊥
   long_or_fails word (Some p) f e = long_fails p.0 p.1 f
@@ -99,9 +99,7 @@ module _ (s : Shape) (names : Names) (flags : AreFlags s.rules) (none : arg_by_i
   -- a first word that names no subcommand is the mark, and stands alone
   pub lone_mark : (word : Text) (words : List Text) → subcommand_met names idle word ≡ None → walk_fault s names (walk_from nothing_held) (word ∷ words) ≡ [] → (word ≡ dashes) × (words ≡ [])
   unfolding walked
-  lone_mark word words m e = go (bytes_eq word dashes) refl (turn_none s names (walk_from nothing_held) word words e)
-    where
-      go : (b : Bool) → bytes_eq word dashes ≡ b → (turn_fault s names (walk_from nothing_held) word ≡ []) × (walk_fault s names (walked s.rules names (walk_from nothing_held) word) words ≡ [])
-          → (word ≡ dashes) × (words ≡ [])
-      go false d h = absurd (turn_fails word m d h.0)
-      go true d h = ((bytes_eq-Decides word dashes).0 d, nothing_behind s names none idle [] None words (rw (m, d) at h.1))
+  lone_mark word words m e = elim (cases_Bool (bytes_eq word dashes)) [
+    | inl d ↦ ((bytes_eq-Decides word dashes).0 d, nothing_behind s names none idle [] None words (rw (m, d) at (turn_none s names (walk_from nothing_held) word words e).1))
+    | inr d ↦ absurd (turn_fails word m d (turn_none s names (walk_from nothing_held) word words e).0)
+  ]

@@ -1,9 +1,10 @@
 -- The rows of the options, beside the rows of other arguments.
-use Rattle.std.proofs.Common.{◌≡◌, ◌∙◌, ℕ, Bool, true, false, true≢false, List, [], ◌∷◌, Option, Some, None, is_some, option_and_then, refl, sym, ap, subst}
+use Rattle.std.proofs.Common.{◌≡◌, ◌∙◌, ℕ, Bool, true, false, true≢false, List, [], ◌∷◌, Option, Some, None, is_some, option_and_then, refl, sym, ap, subst, inl, inr}
 use Rattle.std.specs.Prelude.{codes, find, if◌then◌else◌}
 use Rattle.std.specs.Str.{bytes_eq}
 use Rattle.std.specs.Option.{option_map_or}
 use Rattle.std.proofs.lemmas.Slice.Eq.{bytes_eq-Decides}
+use Rattle.std.proofs.lemmas.Bool.{cases_Bool}
 use Rattle.clap.specs.Words.{Row, Rule, Text}
 use Rattle.clap.specs.Simple.{filled, with_index}
 use Rattle.clap.specs.Walk.{has_row, reading_by, row_text, stronger, used, with_default, with_values, without}
@@ -31,20 +32,12 @@ module _ (id other : Text) (apart : bytes_eq id other ≡ false) where
 
   with_other : (how : Reading) (source : ValueSource) (values : List Text) (rows : List Row) → row_at other (with_values id how source values rows) ≡ row_at other rows
   with_other how source values [] = rw apart refl
-  with_other how source values (r ∷ rows) = go (bytes_eq r.id id) refl (with_other how source values rows)
-    where
-      go : (b : Bool) → bytes_eq r.id id ≡ b → row_at other (with_values id how source values rows) ≡ row_at other rows
-          → row_at other (with_values id how source values (r ∷ rows)) ≡ row_at other (r ∷ rows)
-      go true t later = let no = same_apart r t in rw (t, no) refl
-      go false t later = rw t (ap (λ (o : Option Row). if bytes_eq r.id other then Some r else o) later)
+  with_other how source values (r ∷ rows) =
+      elim (cases_Bool (bytes_eq r.id id)) [ inl t ↦ let no = same_apart r t in rw (t, no) refl | inr t ↦ rw t (ap (λ (o : Option Row). if bytes_eq r.id other then Some r else o) (with_other how source values rows)) ]
 
   without_other : (rows : List Row) → row_at other (without id rows) ≡ row_at other rows
   without_other [] = refl
-  without_other (r ∷ rows) = go (bytes_eq r.id id) refl (without_other rows)
-    where
-      go : (b : Bool) → bytes_eq r.id id ≡ b → row_at other (without id rows) ≡ row_at other rows → row_at other (without id (r ∷ rows)) ≡ row_at other (r ∷ rows)
-      go true t later = let no = same_apart r t in rw (t, no) refl
-      go false t later = rw t (ap (λ (o : Option Row). if bytes_eq r.id other then Some r else o) later)
+  without_other (r ∷ rows) = elim (cases_Bool (bytes_eq r.id id)) [ inl t ↦ let no = same_apart r t in rw (t, no) refl | inr t ↦ rw t (ap (λ (o : Option Row). if bytes_eq r.id other then Some r else o) (without_other rows)) ]
 
   pub set_other : (how : Reading) (source : ValueSource) (values : List Text) (rows : List Row) → row_at other (with_values id how source values (without id rows)) ≡ row_at other rows
   set_other how source values rows = with_other how source values (without id rows) ∙ without_other rows
@@ -63,38 +56,24 @@ no_row r false o t e = true≢false (sym t)
 
 without_none : (id : Text) (rows : List Row) → row_at id rows ≡ None → without id rows ≡ rows
 without_none id [] e = refl
-without_none id (r ∷ rows) e = go (bytes_eq r.id id) refl (without_none id rows)
-  where
-    go : (b : Bool) → bytes_eq r.id id ≡ b → (row_at id rows ≡ None → without id rows ≡ rows) → without id (r ∷ rows) ≡ r ∷ rows
-    go true t later = absurd (no_row r (bytes_eq r.id id) (row_at id rows) t e)
-    go false t later = rw t (ap (λ (l : List Row). r ∷ l) (later (rw t at e)))
+without_none id (r ∷ rows) e = elim (cases_Bool (bytes_eq r.id id)) [ inl t ↦ absurd (no_row r (bytes_eq r.id id) (row_at id rows) t e) | inr t ↦ rw t (ap (λ (l : List Row). r ∷ l) (without_none id rows (rw t at e))) ]
 
 with_own : (id : Text) (how : Reading) (source : ValueSource) (values : List Text) (rows : List Row) → row_at id rows ≡ None
     → row_at id (with_values id how source values rows) ≡ Some (new_row id how source values)
 with_own id how source values [] e = let same = self_eq id in rw same refl
-with_own id how source values (r ∷ rows) e = go (bytes_eq r.id id) refl (with_own id how source values rows)
-  where
-    go : (b : Bool) → bytes_eq r.id id ≡ b → (row_at id rows ≡ None → row_at id (with_values id how source values rows) ≡ Some (new_row id how source values))
-        → row_at id (with_values id how source values (r ∷ rows)) ≡ Some (new_row id how source values)
-    go true t later = absurd (no_row r (bytes_eq r.id id) (row_at id rows) t e)
-    go false t later = rw t (rw t (later (rw t at e)))
+with_own id how source values (r ∷ rows) e = elim (cases_Bool (bytes_eq r.id id)) [ inl t ↦ absurd (no_row r (bytes_eq r.id id) (row_at id rows) t e) | inr t ↦ rw t (rw t (with_own id how source values rows (rw t at e))) ]
 
 pub set_own : (id : Text) (how : Reading) (source : ValueSource) (values : List Text) (rows : List Row) → row_at id rows ≡ None
     → row_at id (with_values id how source values (without id rows)) ≡ Some (new_row id how source values)
 set_own id how source values rows e = ap (λ (l : List Row). row_at id (with_values id how source values l)) (without_none id rows e) ∙ with_own id how source values rows e
 
 pub strongest : (s : Option ValueSource) → stronger s CommandLine ≡ CommandLine
-strongest None = refl
 strongest (Some CommandLine) = refl
-strongest (Some DefaultValue) = refl
+strongest _ = refl
 
 pub has_at : (id : Text) (rows : List Row) → has_row id rows ≡ is_some (row_at id rows)
 has_at id [] = refl
-has_at id (r ∷ rows) = go (bytes_eq r.id id) refl (has_at id rows)
-  where
-    go : (b : Bool) → bytes_eq r.id id ≡ b → has_row id rows ≡ is_some (row_at id rows) → has_row id (r ∷ rows) ≡ is_some (row_at id (r ∷ rows))
-    go true t later = rw t refl
-    go false t later = rw t later
+has_at id (r ∷ rows) = elim (cases_Bool (bytes_eq r.id id)) [ inl t ↦ rw t refl | inr t ↦ rw t (has_at id rows) ]
 
 -- ---- the options
 
@@ -113,11 +92,7 @@ use_switch o rows = used (switch_flag o) [] rows
 
 -- the default of an option says that it was not given
 pub default_other : (o : Switch) (id : Text) → bytes_eq (switch_name o) id ≡ false → (rows : List Row) → row_at id (with_default rows (switch_flag o)) ≡ row_at id rows
-default_other o id apart rows = go (has_row (switch_name o) rows) refl
-  where
-    go : (b : Bool) → has_row (switch_name o) rows ≡ b → row_at id (with_default rows (switch_flag o)) ≡ row_at id rows
-    go true h = rw h refl
-    go false h = rw h (more_other (switch_name o) id apart _ DefaultValue _ rows)
+default_other o id apart rows = elim (cases_Bool (has_row (switch_name o) rows)) [ inl h ↦ rw h refl | inr h ↦ rw h (more_other (switch_name o) id apart _ DefaultValue _ rows) ]
 
 is_none : (r : Option Row) → is_some r ≡ false → r ≡ None
 is_none None e = refl
@@ -137,8 +112,7 @@ default_own o rows = go (has_row (switch_name o) rows) refl
         rw h (ap set_by (with_own (switch_name o) (reading_by (switch_flag o)) DefaultValue (codes "false" ∷ []) rows none) ∙ sym (ap set_by none))
 
 pub default_set : (o s : Switch) (rows : List Row) → is_set (switch_name o) (with_default rows (switch_flag s)) ≡ is_set (switch_name o) rows
-default_set o s rows = go (bytes_eq (switch_name s) (switch_name o)) refl
-  where
-    go : (b : Bool) → bytes_eq (switch_name s) (switch_name o) ≡ b → is_set (switch_name o) (with_default rows (switch_flag s)) ≡ is_set (switch_name o) rows
-    go true t = subst (λ (x : Switch). is_set (switch_name x) (with_default rows (switch_flag s)) ≡ is_set (switch_name x) rows) (one_name s o t) (default_own s rows)
-    go false t = ap set_by (default_other s (switch_name o) t rows)
+default_set o s rows = elim (cases_Bool (bytes_eq (switch_name s) (switch_name o))) [
+  | inl t ↦ subst (λ (x : Switch). is_set (switch_name x) (with_default rows (switch_flag s)) ≡ is_set (switch_name x) rows) (one_name s o t) (default_own s rows)
+  | inr t ↦ ap set_by (default_other s (switch_name o) t rows)
+]

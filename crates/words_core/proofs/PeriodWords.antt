@@ -60,12 +60,10 @@ MayBeNumber None = Unit {0}
 MayBeNumber (Some n) = (2 ≤ n) × (n ≤ 65536)
 
 number_in_range : (text : Text) → MayBeNumber (period_number text)
-number_in_range text = go (is_unsigned_in 2 65536 text) refl
-  where
-    go : (b : Bool) → is_unsigned_in 2 65536 text ≡ b
-        → MayBeNumber (if b then Some (digits_value 10 (without_leading_plus text)) else None)
-    go true e = let is = is_number text e in (is.1, is.2)
-    go false e = tt
+number_in_range text = (elim (is_unsigned_in 2 65536 text) as (λ (b : Bool). is_unsigned_in 2 65536 text ≡ b → MayBeNumber (if b then Some (digits_value 10 (without_leading_plus text)) else None)) [
+  | true ↦ λ e. let is = is_number text e in (is.1, is.2)
+  | false ↦ λ e. tt
+]) refl
 
 abbrev MayBeInRange : Option Period → Type 0
 MayBeInRange None = Unit {0}

@@ -3,6 +3,7 @@ use Rattle.std.proofs.Common.{◌≡◌, ◌∙◌, ◌==◌, ◌⊎◌, ◌<◌
 use Rattle.std.specs.Prelude.{fold, if◌then◌else◌}
 use Rattle.std.specs.List.{after_first, before_first, list_any, position_or_len}
 use Rattle.std.proofs.lemmas.List.Sums.{passes_at_first, split_at_first}
+use Rattle.std.proofs.lemmas.Bool.{cases_Bool}
 use Rattle.clap.specs.Lexer.{has_byte, long_of, long_of_rest, name_and_value}
 use Rattle.clap.specs.Words.{Row, Rule, Shape, Text}
 use Rattle.clap.specs.Walk.{arg_by_index, with_default}
@@ -29,11 +30,7 @@ none_before p xs e = take_all (position_or_len p xs) xs (omega (arith, all_befor
 -- what a test finds is inside
 found_inside : (p : ℕ → Bool) (xs : Text) → list_any p xs ≡ true → position_or_len p xs < length xs
 found_inside p [] e = absurd (true≢false (sym e))
-found_inside p (z ∷ zs) e = go (p z) refl (found_inside p zs)
-  where
-    go : (b : Bool) → p z ≡ b → (list_any p zs ≡ true → position_or_len p zs < length zs) → position_or_len p (z ∷ zs) < length (z ∷ zs)
-    go true t later = rw t (omega arith)
-    go false t later = let rest = later (rw t at e) in rw t (omega (arith, rest))
+found_inside p (z ∷ zs) e = elim (cases_Bool (p z)) [ inl t ↦ rw t (omega arith) | inr t ↦ let rest = found_inside p zs (rw t at e) in rw t (omega (arith, rest)) ]
 
 -- a text with an `=` is what stands before the first, it, and what stands behind it
 around : (text : Text) → has_byte 61 text ≡ true → text ≡ before_first (λ z. z == 61) text ++ (61 ∷ after_first (λ z. z == 61) text)

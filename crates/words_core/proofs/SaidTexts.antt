@@ -15,28 +15,23 @@ module _ {X : Type 0} (read : Text → Option X) where
 
   -- a first text that says something stands for the first of that
   first_said : (b : X) (bs : List X) (x : Text) (xs : List Text) → map Some (b ∷ bs) ≡ map read (x ∷ xs) → (read x ≡ Some b) × (map Some bs ≡ map read xs)
-  first_said b bs x xs e = (
-    sym (ap (λ (l : List (Option X)). unwrap_or (slice_get l 0) (Some b)) e),
-    ap (λ (l : List (Option X)). drop 1 l) e,
-  )
+  first_said b bs x xs e = (sym (ap (λ (l : List (Option X)). unwrap_or (slice_get l 0) (Some b)) e), ap (λ (l : List (Option X)). drop 1 l) e)
 
   -- texts that all say something are passed over
   passed : (said : List X) (before rest : List Text) → map Some said ≡ map read before → position_or_len says_none (before ++ rest) ≡ length before + position_or_len says_none rest
   passed [] [] rest e = omega arith
-  passed [] (x ∷ xs) rest e = cc
-  passed (b ∷ bs) [] rest e = cc
   passed (b ∷ bs) (x ∷ xs) rest e =
       let first = first_said b bs x xs e in
       let later = passed bs xs rest first.1 in
       rw first.0 (omega (arith, later))
+  passed _ _ rest e = cc
 
   all_in : (said : List X) (texts : List Text) → map Some said ≡ map read texts → filter_map read texts ≡ said
   all_in [] [] e = refl
-  all_in [] (x ∷ xs) e = cc
-  all_in (b ∷ bs) [] e = cc
   all_in (b ∷ bs) (x ∷ xs) e =
       let first = first_said b bs x xs e in
       rw first.0 (ap (λ (l : List X). b ∷ l) (all_in bs xs first.1))
+  all_in _ _ e = cc
 
   -- one text more that says something
   pub said_more : (words : List (Bor Text)) (i : ℕ) (d : Bor Text) (said : List X) (one : X) → i < length words

@@ -6,7 +6,7 @@ use Rattle.std.specs.Str.{bytes_eq}
 use Rattle.std.proofs.lemmas.Slice.Eq.{bytes_eq-Decides}
 use Rattle.words_core.specs.declared.option_words.Options.{Options}
 use Rattle.words_core.specs.declared.option_words.Writing.{Writing}
-use Rattle.words_core.specs.declared.option_words.Writing.TheVariants.{Lines, Dated, Objects}
+use Rattle.words_core.specs.declared.option_words.Writing.TheVariants.{Lines}
 use Rattle.clap.specs.Words.{Row, Text}
 use Rattle.clap.proofs.WalkLemmas.{both}
 use Rattle.words_core.specs.RequestLine.{Switch, capture, is_dated, is_object, is_on, is_option, is_set, json, options_given, options_in, replay_switches, switch_name, switch_word, time, writing_by}
@@ -30,11 +30,7 @@ one_name s o e =
 
 -- texts that differ
 pub differs : (a b : Text) → (b ≡ a → ⊥) → bytes_eq a b ≡ false
-differs a b other = go (bytes_eq a b) refl
-  where
-    go : (x : Bool) → bytes_eq a b ≡ x → x ≡ false
-    go true e = absurd (other (sym ((bytes_eq-Decides a b).0 e)))
-    go false e = refl
+differs a b other = (elim (bytes_eq a b) as (λ (x : Bool). bytes_eq a b ≡ x → x ≡ false) [ true ↦ λ e. absurd (other (sym ((bytes_eq-Decides a b).0 e))) | false ↦ λ e. refl ]) refl
 
 -- a name that no option has
 module _ (id : Text) (none : by_name id ≡ None) where
@@ -62,15 +58,13 @@ first_has has o os all = both (has o) (list_all has os) all
 
 -- how is written what is told says which of the two options is given
 writing_says : (d o : Bool) (w : Writing) → writing_by d o ≡ Some w → (d ≡ is_dated w) × (o ≡ is_object w)
-writing_says false false w e = (ap (λ x. is_dated (unwrap_or x w)) e, ap (λ x. is_object (unwrap_or x w)) e)
-writing_says true false w e = (ap (λ x. is_dated (unwrap_or x w)) e, ap (λ x. is_object (unwrap_or x w)) e)
-writing_says false true w e = (ap (λ x. is_dated (unwrap_or x w)) e, ap (λ x. is_object (unwrap_or x w)) e)
 writing_says true true w e = cc
+writing_says false true w e = (ap (λ x. is_dated (unwrap_or x w)) e, ap (λ x. is_object (unwrap_or x w)) e)
+writing_says _ _ w e = (ap (λ x. is_dated (unwrap_or x w)) e, ap (λ x. is_object (unwrap_or x w)) e)
 
 writing_back : (w : Writing) → writing_by (is_dated w) (is_object w) ≡ Some w
 writing_back Lines = refl
-writing_back Dated = refl
-writing_back Objects = refl
+writing_back _ = refl
 
 -- options by which are given are on where they are given
 on_where_given : (given : Switch → Bool) (w : Writing) → writing_by (given time) (given json) ≡ Some w → (o : Switch) → given o ≡ is_on (options_given given w) o

@@ -1,9 +1,10 @@
 -- The rows of a watch's two options: a period in range, and a text.
-use Rattle.std.proofs.Common.{◌≡◌, ◌∙◌, ◌||◌, ◌<◌, ◌^◌, ℕ, Bool, true, false, true≢false, not, List, [], ◌∷◌, ◌++◌, map, Option, Some, None, Result, Ok, Err, length, option_map, option_and_then, refl, sym, ap, subst, arith, if◌then◌else◌}
+use Rattle.std.proofs.Common.{◌≡◌, ◌∙◌, ◌||◌, ◌<◌, ◌^◌, ℕ, Bool, true, false, true≢false, not, List, [], ◌∷◌, ◌++◌, map, Option, Some, None, Result, Ok, Err, length, option_map, option_and_then, refl, sym, ap, subst, arith, if◌then◌else◌, inl, inr}
 use Rattle.std.specs.Prelude.{codes, fold, pos}
 use Rattle.std.specs.Str.Parse.{ExplainsUnsignedError, HasUnsignedDigitsIfOk, IsNumeral, ParsesUnsigned, digits_value, without_leading_plus}
 use Rattle.std.specs.Str.{bytes_eq}
 use Rattle.std.specs.declared.num.ParseIntError.{ParseIntError}
+use Rattle.std.proofs.lemmas.Bool.{cases_Bool}
 use Rattle.clap.specs.Lexer.{without_minus}
 use Rattle.clap.specs.Words.{ReadsOne, Row, Rule, Shape, Text, one_of, one_text, rows_of}
 use Rattle.clap.specs.ValueTests.{is_unsigned_in}
@@ -131,11 +132,7 @@ rows words = rows_after watches.rules [] words
 
 -- the defaults of the options do too
 switch_default_keeps : (a : Rule) (o : Switch) → (switch_name o ≡ a.id → ⊥) → (given : List Row) → Kept a given → Kept a (with_default given (switch_flag o))
-switch_default_keeps a o other given h = go (has_row (switch_name o) given) refl
-  where
-    go : (b : Bool) → has_row (switch_name o) given ≡ b → Kept a (with_default given (switch_flag o))
-    go true f = rw f h
-    go false f = rw f (more_keeps a (switch_flag o) DefaultValue (codes "false" ∷ []) given other h)
+switch_default_keeps a o other given h = elim (cases_Bool (has_row (switch_name o) given)) [ inl f ↦ rw f h | inr f ↦ rw f (more_keeps a (switch_flag o) DefaultValue (codes "false" ∷ []) given other h) ]
 
 pub switch_defaults_keep : (a : Rule) → ((o : Switch) → switch_name o ≡ a.id → ⊥) → (os : List Switch) (given : List Row) → Kept a given → Kept a (fold with_default given (map switch_flag os ++ help_option ∷ []))
 switch_defaults_keep a other [] given h = subst (Kept a) (sym (no_default help_option given refl)) h

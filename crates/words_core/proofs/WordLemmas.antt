@@ -31,9 +31,8 @@ use Rattle.words_core.specs.computed.OfferedLine.{Excludes, IsExclusion, IsUnnam
 -- where a subcommand is required and the last checks pass, there is one
 checked : (has help required argument : Bool) → required ≡ true → check_kinds (not has && help) (not has && required) argument ≡ [] → has ≡ true
 checked true help required argument r e = refl
-checked false true required argument r e = cc
 checked false false true argument r e = cc
-checked false false false argument r e = cc
+checked false _ _ argument r e = cc
 
 level_named : (s : Shape) (names : Names) (h : Held) (words : List Text) (has : Bool) (below : Kinds) → s.subcommand_required ≡ true → level_fault s names h words has below ≡ [] → has ≡ true
 level_named s names h words has below r e = checked has _ s.subcommand_required _ r (level_checked s names h words has below e)
@@ -120,10 +119,7 @@ all_give = (
   plain_gives true show refl,
   (
     plain_gives true check refl,
-    (
-      plain_gives false rewrite refl,
-      (plain_gives true list_blocks refl, (replay_gives, (plain_gives false publish refl, (watch_gives, (losses_gives, (plain_gives false import refl, tt)))))),
-    ),
+    (plain_gives false rewrite refl, (plain_gives true list_blocks refl, (replay_gives, (plain_gives false publish refl, (watch_gives, (losses_gives, (plain_gives false import refl, tt))))))),
   ),
 )
 
@@ -154,10 +150,7 @@ pub may_refuse : (words : List Text) (e : Error) (r : WordsError) → HasKind (f
     → ((kind_of e ≢ kind.OutOfMemory) → r ≡ refused.Words e) → MayRefuseRequest words r
 may_refuse words e r has memory other = elim (memory_or_not (kind_of e)) [
   | inl k ↦ subst (MayRefuseRequest words) (sym (memory k)) tt
-  | inr k ↦ subst (MayRefuseRequest words) (sym (other k)) (elim has [
-    | inl out ↦ absurd (k out)
-    | inr among ↦ among_first (kind_of e) (fault_of request_line words) _ among
-  ])
+  | inr k ↦ subst (MayRefuseRequest words) (sym (other k)) (elim has [ inl out ↦ absurd (k out) | inr among ↦ among_first (kind_of e) (fault_of request_line words) _ among ])
 ]
 
 -- ---- what is answered, where the words have no fault
@@ -171,9 +164,8 @@ Granted words r = request_of_words words ≡ Some (Ok (asked_by r.task, r.option
 -- words without a fault that wish for nothing have options that exclude each other
 excluded : (words : List Text) (e : WordsError) → fault_of request_line words ≡ [] → request_of_words words ≡ None → IsExclusion e → MayRefuseRequest words e
 excluded words (refused.Words error) none nothing is = rw (none, nothing) (inl is)
-excluded words (refused.Block i) none nothing is = absurd is
-excluded words (refused.Period i) none nothing is = absurd is
 excluded words refused.Memory none nothing is = tt
+excluded _ _ _ _ is = absurd is
 
 -- why an answer is refused, and that the words are not what is wrong where they wish for something
 abbrev pub WhyNot : List Text → WordsError → Type 0
@@ -184,14 +176,12 @@ module _ (words : List Text) (none : fault_of request_line words ≡ []) where
   why_not None x e m = (excluded words e none x m, λ some. absurd (true≢false (sym some ∙ ap is_some x)))
   why_not (Some (Ok t)) x e m = subst (WhyNot words) (sym m) (tt, λ some. tt)
   why_not (Some (Err u)) x (refused.Words error) m = absurd m
-  why_not (Some (Err u)) x (refused.Block i) m = ((wish_no_mistake words (Err u) none x, x ∙ ap (λ (k : Unsaid). Some (Err k)) (sym m)), λ some. tt)
-  why_not (Some (Err u)) x (refused.Period i) m = ((wish_no_mistake words (Err u) none x, x ∙ ap (λ (k : Unsaid). Some (Err k)) (sym m)), λ some. tt)
   why_not (Some (Err u)) x refused.Memory m = (tt, λ some. tt)
+  why_not (Some (Err u)) x _ m = ((wish_no_mistake words (Err u) none x, x ∙ ap (λ (k : Unsaid). Some (Err k)) (sym m)), λ some. tt)
 
   is_granted : (o : Option Wish) → request_of_words words ≡ o → (r : Request) → MayGrant o (Some (Ok r)) → Granted words r
-  is_granted None x r m = absurd m
   is_granted (Some (Ok t)) x r m = x ∙ ap₂ (λ (u : Asked) (o : Options). Some (Ok (u, o))) (sym m.0) (sym m.1)
-  is_granted (Some (Err u)) x r m = absurd m
+  is_granted _ _ _ m = absurd m
 
   pub answers : (answer : Answer) → MayGrant (request_of_words words) (Some answer) → IfOk answer (λ r. Granted words r × (request_faults words ≡ [])) × IfErr answer (WhyNot words)
   answers (Ok r) m = let granted = is_granted (request_of_words words) refl r m in ((granted, wish_no_mistake words (Ok (asked_by r.task, r.options)) none granted), tt)
@@ -214,8 +204,6 @@ AreGiven o (Ok wish) = (o ≡ Some wish.1) × (contradict wish.1 ≡ false)
 AreGiven o (Err u) = Unit {0}
 
 pub wish_parts : (m : Option Meaning) (o : Option Options) (w : Wish) → option_and_then (λ x. option_and_then (with_these x) m) o ≡ Some w → (m ≡ Some (meaning_of w)) × AreGiven o w
-wish_parts m None w e = cc
-wish_parts None (Some o) w e = cc
 wish_parts (Some (Err u)) (Some o) w e = subst (λ (x : Wish). (Some (Err u) ≡ Some (meaning_of x)) × AreGiven (Some o) x) (ap (λ (x : Option Wish). unwrap_or x (Err u)) e) (refl, tt)
 wish_parts (Some (Ok t)) (Some o) w e = go (contradict o) refl e
   where
@@ -225,6 +213,8 @@ wish_parts (Some (Ok t)) (Some o) w e = go (contradict o) refl e
     go : (b : Bool) → contradict o ≡ b → (if b then None else Some one) ≡ Some w → (Some (Ok t) ≡ Some (meaning_of w)) × AreGiven (Some o) w
     go true c f = cc
     go false c f = subst (λ (x : Wish). (Some (Ok t) ≡ Some (meaning_of x)) × AreGiven (Some o) x) (ap (λ (x : Option Wish). unwrap_or x one) f) (refl, (refl, c))
+wish_parts m None w e = cc
+wish_parts None (Some o) w e = cc
 
 pub wish_means : (words : List Text) (w : Wish) → request_of_words words ≡ Some w → task_of_words words ≡ Some (meaning_of w)
 wish_means words w e = go (subcommand_of request_line words) e
@@ -291,9 +281,8 @@ named_faultless words t options none wish named = let task = wish_means words (O
 -- words that ask for a replay of none may be refused by that, and are not taken so
 pub unnamed_refused : (words : List Text) (t : Asked) (options : Options) (e : WordsError) → request_faults words ≡ [] → request_of_words words ≡ Some (Ok (t, options)) → names_blocks t ≡ false → IsUnnamed e → MayRefuseWords words e
 unnamed_refused words t options (refused.Words error) none wish unnamed is = let task = wish_means words (Ok (t, options)) wish in rw (none, task, unnamed) (inl is)
-unnamed_refused words t options (refused.Block i) none wish unnamed is = absurd is
-unnamed_refused words t options (refused.Period i) none wish unnamed is = absurd is
 unnamed_refused words t options refused.Memory none wish unnamed is = tt
+unnamed_refused _ _ _ _ _ _ _ is = absurd is
 
 pub unnamed_not_taken : (words : List Text) (t : Asked) (options : Options) → request_of_words words ≡ Some (Ok (t, options)) → names_blocks t ≡ false → takes_words words ≡ true → ⊥
 unnamed_not_taken words t options wish unnamed taken =
@@ -304,9 +293,7 @@ unnamed_not_taken words t options wish unnamed taken =
 -- what is refused otherwise may be refused here
 pub refused_so : (words : List Text) (e : WordsError) → MayRefuseRequest words e → MayRefuseWords words e
 refused_so words (refused.Words error) may = among_first (kind_of error) (request_faults words) _ may
-refused_so words (refused.Block i) may = may
-refused_so words (refused.Period i) may = may
-refused_so words refused.Memory may = may
+refused_so _ _ may = may
 
 -- ---- the command line is such that `clap` says what it does
 
