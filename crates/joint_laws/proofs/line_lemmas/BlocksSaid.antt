@@ -1,11 +1,9 @@
 -- The sightings of `blocks`, as objects and as text.
-use Rattle.std.proofs.Common.{◌≡◌, ℕ, zero, suc, ◌<◌, ◌≤◌, Bool, true, false, List, [], ◌∷◌, ◌++◌, length, take, slice_get, Option, Some, None, ap, refl, sym, subst, ◌∙◌, arith, append_assoc}
-use Rattle.std.specs.Prelude.{IfSome, Result, Ok, Err, codes, if◌then◌else◌}
+use Rattle.std.proofs.Common.{◌≡◌, ℕ, zero, suc, ◌<◌, Bool, true, false, List, [], ◌∷◌, ◌++◌, length, take, slice_get, Option, Some, None, ap, refl, sym, subst, ◌∙◌, arith, append_assoc}
+use Rattle.std.specs.Prelude.{Result, Ok, Err, codes, if◌then◌else◌}
 use Rattle.std.specs.List.{AllByRecursion, concat}
-use Rattle.std.specs.Fmt.{decimal}
 use Rattle.std.specs.Str.{bytes_eq}
 use Rattle.std.proofs.lemmas.Option.{same_Some}
-use Rattle.ber_core.specs.Contents.{AreVisible}
 use Rattle.ber_core.specs.Length.{AreOctets}
 use Rattle.ber_core.specs.declared.fault.Fault.{Fault}
 use Rattle.pdu_core.specs.SampledSpellable.{IsSpellableAsdu}
@@ -22,7 +20,7 @@ use Rattle.frame_core.specs.declared.frame.Frame.{Frame}
 use Rattle.frame_core.specs.computed.FrameReading.{frame_at}
 use Rattle.frame_core.proofs.ReadingLaws.{frame_read_found}
 use Rattle.frame_core.proofs.SpelledSpellable.{frame_spellable}
-use Rattle.text_core.specs.Pieces.{four_digits, two_octets}
+use Rattle.text_core.specs.Pieces.{two_octets}
 use Rattle.object_core.specs.Objects.{text_or_null}
 use Rattle.object_core.specs.declared.counted.Counted.{Counted}
 use Rattle.object_core.specs.declared.counted.Form.{Form}
@@ -33,7 +31,7 @@ use Rattle.joint_laws.proofs.object_lemmas.Fields.{by, decimal_field, octets_fie
 use Rattle.joint_laws.proofs.object_lemmas.Lines.{moment_then}
 use Rattle.engine_core.specs.EventsText.{EventText, exactly_each}
 use Rattle.inventory_engine.specs.Configuration.{configuration_of}
-use Rattle.inventory_engine.specs.Sightings.{Sighting, block_parts, block_sighting, block_text, has_fields, named_parts, sightings_in, sightings_of, sightings_read, sightings_with, stream_sighting, stream_sightings, text_or_none}
+use Rattle.inventory_engine.specs.Sightings.{Sighting, block_sighting, block_text, sightings_in, sightings_of, sightings_read, sightings_with, stream_sighting, stream_sightings}
 use Rattle.inventory_engine.specs.BlocksText.{AreBlocksTexts, AreLines, IsLineAfter, ShowsEvent, Telling, line_after, telling}
 use Rattle.inventory_engine.proofs.FirstLines.{behind, lines_one}
 use Rattle.joint_laws.specs.Given.{IsGivenKind, IsWide}
@@ -42,57 +40,7 @@ use Rattle.joint_laws.proofs.line_lemmas.SpokenLines.{Say, SayEach, json_said, s
 use Rattle.joint_laws.proofs.line_lemmas.Optional.{text_or_null_is, two_are_octets}
 use Rattle.joint_laws.proofs.line_lemmas.Spelled.{frame_held}
 use Rattle.joint_laws.proofs.line_lemmas.Told.{say_event}
-use Rattle.joint_laws.proofs.line_lemmas.Visible.{all_visible, decimal_visible, four_visible, quoted_or_dash_visible, quoted_visible, visible_both}
-
--- ---- the text of a control block
-
-words_visible : (parts : List (List ℕ)) → AllByRecursion AreVisible parts → AreVisible (concat parts)
-words_visible [] h = tt
-words_visible (x ∷ parts) h = visible_both x (concat parts) h.0 (words_visible parts h.1)
-
-one : (c : ℕ) → 32 ≤ c → c ≤ 126 → AreVisible (c ∷ [])
-one c low high = ((low, high), tt)
-
-none_visible : (id : Option (List ℕ)) → IfSome id AreVisible → AreVisible (text_or_none id)
-none_visible None h = tt
-none_visible (Some id) h = h
-
-block_visible : {A : Type 0} (app_id : ℕ) (p : GoosePdu A) → app_id < 65536 → IsSpellableGoose p → AreVisible (block_text (configuration_of app_id p))
-block_visible app_id p small spelled = go (has_fields (configuration_of app_id p))
-  where
-    app : AreVisible (four_digits app_id)
-    app = four_visible app_id small
-
-    comma : AreVisible (codes ",")
-    comma = one 44 (omega arith) (omega arith)
-
-    rev : AreVisible (decimal p.conf_rev)
-    rev = decimal_visible p.conf_rev (omega (arith, spelled.conf_rev))
-
-    count : AreVisible (decimal (length p.members))
-    count = decimal_visible (length p.members) (omega (arith, spelled.entries))
-
-    go : (b : Bool) → AreVisible (if b then concat (block_parts (configuration_of app_id p)) else concat (named_parts (configuration_of app_id p)))
-    go true = words_visible (block_parts (configuration_of app_id p)) (app, (comma, (spelled.gocb_ref, (comma, (spelled.dat_set, (comma, (none_visible p.go_id spelled.go_id, (comma, (rev, (comma, (count, tt)))))))))))
-    go false = words_visible (named_parts (configuration_of app_id p)) (
-      all_visible (codes "appid=") refl,
-      (
-        app,
-        (
-          all_visible (codes " ref=") refl,
-          (
-            quoted_visible p.gocb_ref spelled.gocb_ref,
-            (
-              all_visible (codes " set=") refl,
-              (
-                quoted_visible p.dat_set spelled.dat_set,
-                (all_visible (codes " id=") refl, (quoted_or_dash_visible p.go_id spelled.go_id, (all_visible (codes " rev=") refl, (rev, (all_visible (codes " entries=") refl, (count, tt)))))),
-              ),
-            ),
-          ),
-        ),
-      ),
-    )
+use Rattle.joint_laws.proofs.text_lemmas.BlockTexts.{block_visible}
 
 -- ---- sightings
 

@@ -3,7 +3,7 @@ use Rattle.std.proofs.Common.{◌≡◌, ℕ, ◌+◌, ◌-◌, ◌*◌, ◌%◌
 use Rattle.std.specs.Prelude.{IfSome, Result, Ok, Err, ◌==◌, nat_lt}
 use Rattle.std.specs.List.{AllByRecursion}
 use Rattle.std.proofs.Math.Nat.{mod-lt}
-use Rattle.std.proofs.lemmas.Bool.{cases_lt, le-leb, le-ltb, lt-leb, lt-ltb}
+use Rattle.std.proofs.lemmas.Bool.{cases_lt, cond_both, le-leb, le-ltb, lt-leb, lt-ltb}
 use Rattle.std.proofs.lemmas.Nat.{mul-le}
 use Rattle.ber_core.specs.Contents.{AreVisible}
 use Rattle.ber_core.specs.Length.{AreOctets}
@@ -183,29 +183,16 @@ advance_small : (period n : ℕ) → IsWide n → IsSmallAdvance (advance_of per
 advance_small period n wide = elim (cases_lt period n) [ inl lt ↦ rw (lt-ltb period n lt) (omega arith) | inr le ↦ rw (le-ltb period n le) tt ]
 
 by_small : (run front : ℕ) (a : Advance) → IsSmallAdvance a → IsSmallCame (by_advance run front a)
-by_small run front (Ahead n) small = go (n == 1)
-  where
-    go : (b : Bool) → IsSmallCame (if b then came.Next else came.Missing (n - 1))
-    go true = tt
-    go false = omega arith
-by_small run front (Back n) small = go (n == 0 || nat_lt n run) (nat_lt front n)
-  where
-    go : (b d : Bool) → IsSmallCame (if b then came.Repeated else if d then came.BeforeFirst else came.Late)
-    go true d = tt
-    go false true = tt
-    go false false = tt
+by_small run front (Ahead n) small = cond_both (n == 1) _ _ IsSmallCame (λ next. tt) (λ more. omega arith)
+by_small run front (Back n) small = cond_both (n == 0 || nat_lt n run) _ _ IsSmallCame (λ again. tt) (λ late. cond_both (nat_lt front n) _ _ IsSmallCame (λ before. tt) (λ behind. tt))
 
 came_small : (period : ℕ) (newest : Option Newest) (s : Sample) → period ≤ 65536 → IsWide s.moment → IsSmallCame (came_after period newest s)
-came_small period None s few wide = go (nat_lt s.count period)
-  where
-    go : (b : Bool) → IsSmallCame (if b then came.First else came.OutOfRange)
-    go true = tt
-    go false = tt
-came_small period (Some n) s few wide = go (nat_lt s.count period)
-  where
-    go : (b : Bool) → IsSmallCame (if b then by_advance n.run ((n.begun + n.run) - 1) (advance_by period (s.moment - n.moment) n.count s.count) else came.OutOfRange)
-    go true = by_small n.run ((n.begun + n.run) - 1) (advance_by period (s.moment - n.moment) n.count s.count) (advance_small period (nearest_to period (s.moment - n.moment) (way_round period n.count s.count)) (nearest_small period (s.moment - n.moment) (way_round period n.count s.count) few (omega (arith, wide))))
-    go false = tt
+came_small period None s few wide = cond_both (nat_lt s.count period) _ _ IsSmallCame (λ below. tt) (λ above. tt)
+came_small period (Some n) s few wide =
+    let elapsed = s.moment - n.moment in
+    let rest = way_round period n.count s.count in
+    cond_both (nat_lt s.count period) _ _ IsSmallCame
+    (λ below. by_small n.run ((n.begun + n.run) - 1) (advance_by period elapsed n.count s.count) (advance_small period (nearest_to period elapsed rest) (nearest_small period elapsed rest few (omega (arith, wide))))) (λ above. tt)
 
 told_small : (period app_id : ℕ) (source id : List ℕ) (count : ℕ) (c : Came) → 0 < period → period ≤ 65536 → IsWide count → IsSmallCame c → AreSmall (stream app_id source id) (came_told period count c)
 told_small period app_id source id count came.First some few wide small = tt
@@ -225,24 +212,11 @@ synch_small app_id source id (Some before) synch wide small = elim (before == sy
 
 -- ---- what is kept
 
-pub record AreSmallSenderTotals (t : SenderTotals) : Type 0 where
-  pub frames_are : IsWide t.frames
-  pub states_missing : IsWide t.states_missing
-  pub frames_missing : IsWide t.frames_missing
-  pub late : IsWide t.late
-  pub repeated : IsWide t.repeated
-  pub restarted : IsWide t.restarted
-  pub silent : IsWide t.silent
-  pub longest : IsWide t.longest
+abbrev pub AreSmallSenderTotals : SenderTotals → Type 0
+AreSmallSenderTotals t = IsWide t.frames × IsWide t.states_missing × IsWide t.frames_missing × IsWide t.late × IsWide t.repeated × IsWide t.restarted × IsWide t.silent × IsWide t.longest
 
-pub record AreSmallStreamTotals (t : StreamTotals) : Type 0 where
-  pub samples_are : IsWide t.samples
-  pub missing : IsWide t.missing
-  pub late : IsWide t.late
-  pub repeated : IsWide t.repeated
-  pub out_of_range : IsWide t.out_of_range
-  pub outages : IsWide t.outages
-  pub longest : IsWide t.longest
+abbrev pub AreSmallStreamTotals : StreamTotals → Type 0
+AreSmallStreamTotals t = IsWide t.samples × IsWide t.missing × IsWide t.late × IsWide t.repeated × IsWide t.out_of_range × IsWide t.outages × IsWide t.longest
 
 abbrev pub IsSmallProgress : Progress → Type 0
 IsSmallProgress (frames t) = AreSmallSenderTotals t.totals
@@ -257,57 +231,20 @@ kept_wide : (n : ℕ) → IsWide (kept n)
 kept_wide n = omega arith
 
 sums_small : (old : SenderTotals) (a : Arrival) (t : Told) (set_at : ℕ) → IsWide old.longest → IsWide a.moment → AreSmallSenderTotals (totals_after old a t set_at)
-sums_small old a t set_at longest wide = record {
-  frames_are = kept_wide _;
-  states_missing = kept_wide _;
-  frames_missing = kept_wide _;
-  late = kept_wide _;
-  repeated = kept_wide _;
-  restarted = kept_wide _;
-  silent = kept_wide _;
-  longest = go (sets t);
-}
-  where
-    go : (b : Bool) → IsWide (max old.longest (if b then a.moment - set_at else 0))
-    go true = omega arith
-    go false = omega arith
+sums_small old a t set_at longest wide =
+    let most : IsWide (max old.longest (if sets t then a.moment - set_at else 0)) = cond_both (sets t) _ _ (λ n. IsWide (max old.longest n)) (λ set. omega arith) (λ unset. omega arith) in
+    (kept_wide _, kept_wide _, kept_wide _, kept_wide _, kept_wide _, kept_wide _, kept_wide _, most)
 
 stream_sums_small : (old : StreamTotals) (c : Came) → AreSmallStreamTotals (stream_totals_after old c)
-stream_sums_small old c = record {
-  samples_are = kept_wide _;
-  missing = kept_wide _;
-  late = kept_wide _;
-  repeated = kept_wide _;
-  out_of_range = kept_wide _;
-  outages = kept_wide _;
-  longest = kept_wide _;
-}
+stream_sums_small old c = (kept_wide _, kept_wide _, kept_wide _, kept_wide _, kept_wide _, kept_wide _, kept_wide _)
 
 -- a total at the end, where the lifetime was over then too or was not
 pub end_small : (since : Option ℕ) (t : SenderTotals) → AreSmallSenderTotals t → AreSmallSenderTotals (with_end since t)
 end_small None t small = small
-end_small (Some since) t small = record {
-  frames_are = small.frames_are;
-  states_missing = small.states_missing;
-  frames_missing = small.frames_missing;
-  late = small.late;
-  repeated = small.repeated;
-  restarted = small.restarted;
-  silent = kept_wide _;
-  longest = small.longest;
-}
+end_small (Some since) t small = (small.0, small.1, small.2, small.3, small.4, small.5, kept_wide _, small.7)
 
 first_small : (period : Option ℕ) (moment : ℕ) (shown : Shown) (key : Key) → IsPeriodOf period → IsWide moment → IsGivenShown key shown → IsSmallProgress (first_progress period moment shown)
-first_small period moment (frame p lifetime) key is wide given = record {
-  frames_are = omega arith;
-  states_missing = omega arith;
-  frames_missing = omega arith;
-  late = omega arith;
-  repeated = omega arith;
-  restarted = omega arith;
-  silent = omega arith;
-  longest = omega arith;
-}
+first_small period moment (frame p lifetime) key is wide given = (omega arith, omega arith, omega arith, omega arith, omega arith, omega arith, omega arith, omega arith)
 first_small None moment (sample count synch) (stream a o i) is wide given = (omega arith, given.1)
 first_small (Some period) moment (sample count synch) (stream a o i) is wide given = ((is period refl).1, stream_sums_small (fresh_tally period).totals _, given.1)
 first_small _ _ (sample _ _) (sender _ _ _) _ _ given = absurd given
@@ -315,7 +252,7 @@ first_small _ _ (sample _ _) (sender _ _ _) _ _ given = absurd given
 more_small : (moment : ℕ) (shown : Shown) (key : Key) (known : Progress) → IsWide moment → IsGivenShown key shown → IsSmallProgress known → IsSmallProgress (more_progress moment shown known)
 more_small moment (frame p lifetime) key (frames t) wide given small =
     let a : Arrival = record { pair = p; moment = moment; lifetime = lifetime } in
-    sums_small t.totals a (told_after (Some t.sender) a) t.set_at small.longest wide
+    sums_small t.totals a (told_after (Some t.sender) a) t.set_at small.7 wide
 more_small moment (sample count synch) (sender a r s) (samples u z) wide given small = absurd given
 more_small moment (sample count synch) (stream a o i) (samples u z) wide given small = (small.0, stream_sums_small u.totals _, given.1)
 more_small moment (sample count synch) (sender a r s) (counted n z) wide given small = absurd given
@@ -330,12 +267,8 @@ known_small (x ∷ xs) key small = elim (same_key x.key key) as (λ (b : Bool). 
 with_small : (xs : List Tracked) (key : Key) (first : Progress) (more : Progress → Progress) → AllByRecursion IsSmallTracked xs → IsGivenKey key → IsSmallProgress first
     → ((known : Progress) → IsSmallProgress known → IsSmallProgress (more known)) → AllByRecursion IsSmallTracked (with_progress xs key first more)
 with_small [] key first more small given begins goes = (record { key = given; progress = begins }, tt)
-with_small (x ∷ xs) key first more small given begins goes = go (same_key x.key key) (with_small xs key first more small.1 given begins goes)
-  where
-    go : (b : Bool) → AllByRecursion IsSmallTracked (with_progress xs key first more)
-        → AllByRecursion IsSmallTracked (if b then record { key = x.key; progress = more x.progress } ∷ xs else x ∷ with_progress xs key first more)
-    go true rest = (record { key = small.0.key; progress = goes x.progress small.0.progress }, small.1)
-    go false rest = (small.0, rest)
+with_small (x ∷ xs) key first more small given begins goes =
+    cond_both (same_key x.key key) _ _ (AllByRecursion IsSmallTracked) (λ same. (record { key = small.0.key; progress = goes x.progress small.0.progress }, small.1)) (λ other. (small.0, with_small xs key first more small.1 given begins goes))
 
 -- after one sight more
 pub track_small : (periods : List Period) (xs : List Tracked) (s : Sight) → ArePeriods periods → AllByRecursion IsSmallTracked xs → IsGivenSight s → AllByRecursion IsSmallTracked (track periods xs s)

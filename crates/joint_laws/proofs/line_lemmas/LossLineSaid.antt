@@ -110,14 +110,14 @@ total_goose_kind = word_field 0 (codes "kind") (codes "total-goose") refl (by_te
 
 abbrev sender_totals_named : (t : SenderTotals) → AreSmallSenderTotals t → List (Named 0)
 sender_totals_named t small =
-    decimal_field 0 (codes "frames") t.frames refl small.frames_are
-    ∷ decimal_field 0 (codes "statesMissing") t.states_missing refl small.states_missing
-    ∷ decimal_field 0 (codes "framesMissing") t.frames_missing refl small.frames_missing
-    ∷ decimal_field 0 (codes "late") t.late refl small.late
-    ∷ decimal_field 0 (codes "repeated") t.repeated refl small.repeated
-    ∷ decimal_field 0 (codes "restarted") t.restarted refl small.restarted
-    ∷ decimal_field 0 (codes "silent") t.silent refl small.silent
-    ∷ decimal_field 0 (codes "longest") t.longest refl small.longest
+    decimal_field 0 (codes "frames") t.frames refl small.0
+    ∷ decimal_field 0 (codes "statesMissing") t.states_missing refl small.1
+    ∷ decimal_field 0 (codes "framesMissing") t.frames_missing refl small.2
+    ∷ decimal_field 0 (codes "late") t.late refl small.3
+    ∷ decimal_field 0 (codes "repeated") t.repeated refl small.4
+    ∷ decimal_field 0 (codes "restarted") t.restarted refl small.5
+    ∷ decimal_field 0 (codes "silent") t.silent refl small.6
+    ∷ decimal_field 0 (codes "longest") t.longest refl small.7
     ∷ []
 
 say_sender_total : (key : Key) (t : SenderTotals) → IsGivenKey key → AreSmallSenderTotals t → Say (sender_total_object key t) (sender_total_line key t)
@@ -131,13 +131,13 @@ total_sv_kind = word_field 0 (codes "kind") (codes "total-sv") refl (by_test (co
 
 abbrev stream_totals_named : (t : StreamTotals) → AreSmallStreamTotals t → List (Named 0)
 stream_totals_named t small =
-    decimal_field 0 (codes "samples") t.samples refl small.samples_are
-    ∷ decimal_field 0 (codes "missing") t.missing refl small.missing
-    ∷ decimal_field 0 (codes "late") t.late refl small.late
-    ∷ decimal_field 0 (codes "repeated") t.repeated refl small.repeated
-    ∷ decimal_field 0 (codes "outOfRange") t.out_of_range refl small.out_of_range
-    ∷ decimal_field 0 (codes "outages") t.outages refl small.outages
-    ∷ decimal_field 0 (codes "longest") t.longest refl small.longest
+    decimal_field 0 (codes "samples") t.samples refl small.0
+    ∷ decimal_field 0 (codes "missing") t.missing refl small.1
+    ∷ decimal_field 0 (codes "late") t.late refl small.2
+    ∷ decimal_field 0 (codes "repeated") t.repeated refl small.3
+    ∷ decimal_field 0 (codes "outOfRange") t.out_of_range refl small.4
+    ∷ decimal_field 0 (codes "outages") t.outages refl small.5
+    ∷ decimal_field 0 (codes "longest") t.longest refl small.6
     ∷ []
 
 say_stream_total : (key : Key) (t : StreamTotals) → IsGivenKey key → AreSmallStreamTotals t → Say (stream_total_object key t) (stream_total_line key t)

@@ -51,12 +51,10 @@ all_track_small periods xs (s ∷ seen) is small given = all_track_small periods
 
 -- by how much time goes back is a number of 64 bits
 back_small : (k : Kept) (moment : ℕ) → IsWide k.moment → IfSome (back_by k moment) IsWide
-back_small k moment wide = go (is_far_below k.moment moment) k.is_back
-  where
-    go : (far was : Bool) → IfSome (back_where far was (k.moment - moment)) IsWide
-    go false was = tt
-    go true true = tt
-    go true false = omega arith
+back_small k moment wide = elim (is_far_below k.moment moment) as (λ (b : Bool). IfSome (back_where b k.is_back (k.moment - moment)) IsWide) [
+  | false ↦ tt
+  | true ↦ elim k.is_back as (λ (w : Bool). IfSome (back_where true w (k.moment - moment)) IsWide) [ true ↦ tt | false ↦ omega arith ]
+]
 
 -- a moment of 64 bits, and what is tracked
 record IsSmallKept (k : Kept) : Type 0 where

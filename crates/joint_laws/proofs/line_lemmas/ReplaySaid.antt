@@ -1,8 +1,8 @@
 -- What `replay` writes, as objects and as text.
-use Rattle.std.proofs.Common.{◌≡◌, ℕ, zero, suc, ◌+◌, ◌<◌, ◌≤◌, Bool, true, false, List, [], ◌∷◌, ◌++◌, length, Option, Some, None, ap, sym, subst, arith, inl, inr, refl, ◌∙◌}
+use Rattle.std.proofs.Common.{◌≡◌, ℕ, ◌+◌, ◌<◌, ◌≤◌, Bool, true, false, List, [], ◌∷◌, ◌++◌, length, Option, Some, None, ap, sym, subst, arith, inl, inr, refl, ◌∙◌}
 use Rattle.std.specs.Prelude.{slice_get}
 use Rattle.std.specs.List.{AllByRecursion}
-use Rattle.std.proofs.lemmas.Option.{same_Some}
+use Rattle.std.proofs.lemmas.Option.{same_Some, slice_get_within}
 use Rattle.std.proofs.lemmas.Bool.{cases_Bool}
 use Rattle.pdu_core.specs.Goose.{SpellsGoose}
 use Rattle.pdu_core.specs.Spellable.{IsSpellableGoose}
@@ -67,11 +67,6 @@ each_given n holds entry b (block ∷ blocks) entries given few (inl (here, (res
     subst (AllByRecursion (IsGivenEntry n)) (sym is) (given b (omega arith), each_given n holds entry (b + 1) blocks rest given (omega arith) more)
 each_given n holds entry b (block ∷ blocks) entries given few (inr none) = each_given n holds entry (b + 1) blocks entries given (omega arith) none.1
 
-position_below : {A : Type 0} (blocks : List (Block A)) (i : ℕ) (b : Block A) → slice_get blocks i ≡ Some b → i < length blocks
-position_below [] i b at = cc
-position_below (x ∷ blocks) zero b at = omega arith
-position_below (x ∷ blocks) (suc i) b at = let rest = position_below blocks i b at in omega arith
-
 verdict_given : (A : Type 0) (n b : ℕ) (f : FrameRead) (v : Verdict) → b < n → IsGivenContent (OfGoose f) → IsGivenEntry {A = A} n (entry_of {A = A} b f v)
 verdict_given A n b f Act below given = (below, (omega (arith, given.0.st_num), omega (arith, given.0.sq_num)), given.0.t, given.1)
 verdict_given A n b f _ below given = (below, (omega (arith, given.0.st_num), omega (arith, given.0.sq_num)))
@@ -84,7 +79,7 @@ own_given {A} n readings i b block f None entry below given (v, is, told) = subs
 frame_given : {A : Type 0} (blocks : List (Block A)) (readings : List EventRead) (i : ℕ) (f : FrameRead) (entry : Entry A) → IsGivenContent (OfGoose f) → IsFrameEntry blocks readings i f entry → IsGivenEntry (length blocks) entry
 frame_given blocks readings i f entry given (inl foreign) = subst (IsGivenEntry (length blocks)) (sym foreign.told) tt
 frame_given blocks readings i f entry given (inr own) =
-    own_given (length blocks) readings i own.position own.block f (reason_at own.block readings i f) entry (position_below blocks own.position own.block own.here) given own.told
+    own_given (length blocks) readings i own.position own.block f (reason_at own.block readings i f) entry (slice_get_within blocks own.position own.block own.here) given own.told
 
 content_given : {A : Type 0} (blocks : List (Block A)) (readings : List EventRead) (i : ℕ) (content : Content) (entries : List (Entry A)) → IsGivenContent content → AreOfContent blocks readings i content entries
     → AllByRecursion (IsGivenEntry (length blocks)) entries

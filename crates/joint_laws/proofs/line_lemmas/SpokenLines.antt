@@ -78,13 +78,13 @@ SayEach {A} allows =
     (c : Counted) (before : List (ℕ × Event A)) (e : ℕ × Event A) (objects lines : List ℕ × Bool) → IsGiven e → allows (forms.Object c) before e objects → allows forms.Text before e lines → Say objects.0 lines.0 × (objects.1 ≡ lines.1)
 
 -- what stands in the same place of two lists of one length
-same_place : {X Y : Type 0} (xs : List X) (ys : List Y) (i : ℕ) (y : Y) → length ys ≡ length xs → slice_get ys i ≡ Some y → (x : X) × (slice_get xs i ≡ Some x)
+pub same_place : {X Y : Type 0} (xs : List X) (ys : List Y) (i : ℕ) (y : Y) → length ys ≡ length xs → slice_get ys i ≡ Some y → (x : X) × (slice_get xs i ≡ Some x)
 same_place xs [] i y e h = absurd (none-some y h)
 same_place [] (z ∷ ys) i y e h = absurd (omega arith)
 same_place (x ∷ xs) (z ∷ ys) zero y e h = (x, refl)
 same_place (x ∷ xs) (z ∷ ys) (suc i) y e h = same_place xs ys i y (omega arith) h
 
-all_at : {X : Type 0} (P : X → Type 0) (xs : List X) (i : ℕ) (x : X) → AllByRecursion P xs → slice_get xs i ≡ Some x → P x
+pub all_at : {X : Type 0} (P : X → Type 0) (xs : List X) (i : ℕ) (x : X) → AllByRecursion P xs → slice_get xs i ≡ Some x → P x
 all_at P [] i x all h = absurd (none-some x h)
 all_at P (y ∷ xs) zero x all h = subst P (same_Some y x h) all.0
 all_at P (y ∷ xs) (suc i) x all h = all_at P xs i x all.1 h

@@ -1,14 +1,16 @@
 -- Texts of visible octets.
-use Rattle.std.proofs.Common.{◌≡◌, ℕ, zero, suc, ◌/◌, ◌%◌, ◌^◌, ◌<◌, Bool, true, List, [], ◌∷◌, ◌++◌, length, get_or, Option, Some, None, subst, sym, arith, inl, inr}
-use Rattle.std.specs.Prelude.{◌⊎◌, ◌&&◌, IfSome, nat_le, flat_map}
+use Rattle.std.proofs.Common.{◌≡◌, ℕ, zero, suc, ◌^◌, ◌<◌, true, List, [], ◌∷◌, ◌++◌, Option, Some, None, arith}
+use Rattle.std.specs.Prelude.{◌||◌, ◌==◌, IfSome, flat_map}
 use Rattle.std.specs.Char.{digit_value}
 use Rattle.std.specs.Fmt.{decimal}
 use Rattle.std.specs.Str.Parse.{AllDigits}
-use Rattle.std.proofs.lemmas.Bool.{and_parts, cases_eq, leb-true, ne_eqb}
+use Rattle.std.proofs.lemmas.Bool.{cond_both}
 use Rattle.std.proofs.lemmas.Fmt.{decimal_is_IsNumeral}
-use Rattle.hex.specs.Hex.{encode_with, lower_digits}
 use Rattle.ber_core.specs.Contents.{AreVisible, IsVisible}
-use Rattle.text_core.specs.Pieces.{escaped, four_digits, quoted, quoted_or_dash}
+use Rattle.list_core.specs.Cuts.{HasNo}
+use Rattle.text_core.specs.Pieces.{escaped, four_digits, quoted, quoted_or_dash, two_octets}
+use Rattle.joint_laws.proofs.object_lemmas.PlainTexts.{are_plain, by_test, hexadecimal_plain, plain_visible}
+use Rattle.joint_laws.proofs.line_lemmas.Optional.{two_are_octets}
 
 pub visible_both : (a b : List ℕ) → AreVisible a → AreVisible b → AreVisible (a ++ b)
 visible_both [] b p q = q
@@ -25,12 +27,7 @@ pub decimal_visible : (n : ℕ) → n < 2 ^ 64 → AreVisible (decimal n)
 decimal_visible n h = digits_visible (decimal n) (decimal_is_IsNumeral n h).0.1
 
 escaped_visible : (x : ℕ) → IsVisible x → AreVisible (escaped x)
-escaped_visible x h = go (cases_eq x 34) (cases_eq x 92)
-  where
-    go : (x ≡ 34) ⊎ (x ≡ 34 → ⊥) → (x ≡ 92) ⊎ (x ≡ 92 → ⊥) → AreVisible (escaped x)
-    go (inl e) b = subst (λ (n : ℕ). AreVisible (escaped n)) (sym e) ((omega arith, omega arith), ((omega arith, omega arith), tt))
-    go (inr q) (inl e) = subst (λ (n : ℕ). AreVisible (escaped n)) (sym e) ((omega arith, omega arith), ((omega arith, omega arith), tt))
-    go (inr q) (inr b) = let bare : AreVisible (x ∷ []) = (h, tt) in rw (ne_eqb x 34 q, ne_eqb x 92 b) bare
+escaped_visible x h = cond_both (x == 34 || x == 92) (92 ∷ x ∷ []) (x ∷ []) AreVisible (λ marked. ((omega arith, omega arith), (h, tt))) (λ plain. (h, tt))
 
 all_escaped : (text : List ℕ) → AreVisible text → AreVisible (flat_map escaped text)
 all_escaped [] h = tt
@@ -46,30 +43,15 @@ pub quoted_or_dash_visible : (text : Option (List ℕ)) → IfSome text AreVisib
 quoted_or_dash_visible None h = ((omega arith, omega arith), tt)
 quoted_or_dash_visible (Some text) h = quoted_visible text h
 
--- a digit of four
-hex_visible : (d : ℕ) → d < 16 → IsVisible (get_or lower_digits d 0)
-hex_visible d h = visible_at lower_digits d digits h
-  where
-    digits : AreVisible lower_digits
-    digits = ((omega arith, omega arith), ((omega arith, omega arith), ((omega arith, omega arith), ((omega arith, omega arith), ((omega arith, omega arith), ((omega arith, omega arith), ((omega arith, omega arith), ((omega arith, omega arith), ((omega arith, omega arith), ((omega arith, omega arith), ((omega arith, omega arith), ((omega arith, omega arith), ((omega arith, omega arith), ((omega arith, omega arith), ((omega arith, omega arith), ((omega arith, omega arith), tt))))))))))))))))
-
-    visible_at : (text : List ℕ) (k : ℕ) → AreVisible text → k < length text → IsVisible (get_or text k 0)
-    visible_at [] k p h = absurd (omega arith)
-    visible_at (c ∷ text) zero p h = p.0
-    visible_at (c ∷ text) (suc k) p h = visible_at text k p.1 (omega arith)
-
 pub four_visible : (n : ℕ) → n < 65536 → AreVisible (four_digits n)
-unfolding encode_with
-four_visible n h = (hex_visible (n / 256 / 16) (omega arith), (hex_visible (n / 256 % 16) (omega arith), (hex_visible (n % 256 / 16) (omega arith), (hex_visible (n % 256 % 16) (omega arith), tt))))
+four_visible n h = plain_visible (four_digits n) (hexadecimal_plain (two_octets n) (two_are_octets n h))
 
 -- by a test
-abbrev pub are_visible : List ℕ → Bool
-are_visible [] = true
-are_visible (c ∷ cs) = nat_le 32 c && nat_le c 126 && are_visible cs
+pub all_visible : (text : List ℕ) → are_plain text ≡ true → AreVisible text
+all_visible text h = plain_visible text (by_test text h)
 
-pub all_visible : (text : List ℕ) → are_visible text ≡ true → AreVisible text
-all_visible [] h = tt
-all_visible (c ∷ cs) h =
-    let parts = and_parts _ _ h in
-    let first = and_parts _ _ parts.0 in
-    ((leb-true 32 c first.0, leb-true c 126 first.1), all_visible cs parts.1)
+-- no LF stands in them
+pub visible_unbroken : (text : List ℕ) → AreVisible text → HasNo 10 text
+visible_unbroken [] h k l e = absurd (omega arith)
+visible_unbroken (c ∷ text) h zero l e = omega (arith, h.0.0, e)
+visible_unbroken (c ∷ text) h (suc k) l e = visible_unbroken text h.1 k (omega arith) e

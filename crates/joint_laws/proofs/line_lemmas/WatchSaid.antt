@@ -1,11 +1,10 @@
 -- The samples of `watch`, as objects and as text.
-use Rattle.std.proofs.Common.{◌≡◌, ℕ, zero, suc, ◌*◌, Option, None, inl, inr, ◌+◌, ◌^◌, ◌<◌, ◌≤◌, Bool, true, false, List, [], ◌∷◌, ◌++◌, length, Some, ap, refl, sym, subst, ◌∙◌, arith, append_assoc}
-use Rattle.std.specs.Prelude.{◌⊎◌, Result, Ok, Err, codes, if◌then◌else◌, slice_get}
-use Rattle.std.proofs.lemmas.Bool.{cases_eq, cases_lt, eq-eqb, le-ltb, lt-ltb, ne_eqb}
+use Rattle.std.proofs.Common.{◌≡◌, ℕ, suc, ◌*◌, Option, None, ◌+◌, ◌^◌, ◌<◌, Bool, true, false, List, [], ◌∷◌, ◌++◌, length, Some, ap, refl, sym, subst, ◌∙◌, arith, append_assoc}
+use Rattle.std.specs.Prelude.{Result, Ok, Err, codes, if◌then◌else◌, nat_lt, ◌==◌, slice_get}
+use Rattle.std.proofs.lemmas.Bool.{cond_both, ltb-true}
 use Rattle.std.specs.List.{AllByRecursion}
 use Rattle.std.specs.Fmt.{decimal}
 use Rattle.std.specs.Str.{bytes_eq}
-use Rattle.std.proofs.lemmas.List.{length-append}
 use Rattle.ber_core.specs.Length.{AreOctets}
 use Rattle.ber_core.specs.declared.fault.Fault.{Fault}
 use Rattle.pdu_core.specs.SampledSpellable.{IsSpellableAsdu}
@@ -38,7 +37,8 @@ use Rattle.joint_laws.specs.JsonLines.{WatchIsJson}
 use Rattle.engine_core.specs.EventsText.{EventText, exactly_each}
 use Rattle.object_core.specs.declared.counted.Form.{Form}
 use Rattle.joint_laws.proofs.line_lemmas.FaultPlaces.{fault_wide}
-use Rattle.joint_laws.proofs.line_lemmas.SpokenLines.{Say, SayEach, json_said, say_both, say_none, say_same}
+use Rattle.joint_laws.proofs.text_lemmas.OneText.{end_same}
+use Rattle.joint_laws.proofs.line_lemmas.SpokenLines.{same_place, Say, SayEach, json_said, say_both, say_none, say_same}
 use Rattle.joint_laws.proofs.line_lemmas.Told.{say_event, say_fault}
 
 -- ---- one sample
@@ -70,28 +70,12 @@ say_sample c n moment s seen.OutOfRange small past few told =
 -- ---- the answers
 
 wide_way : (period d : ℕ) → IsWide period → IsSmallSeen (by_way period d)
-wide_way period d wide = go (cases_eq d 0) (cases_eq d 1) (cases_lt (2 * d) period)
-  where
-    go : (d ≡ 0) ⊎ (d ≡ 0 → ⊥) → (d ≡ 1) ⊎ (d ≡ 1 → ⊥) → (2 * d < period) ⊎ (period ≤ 2 * d) → IsSmallSeen (by_way period d)
-    go (inl e) b c = rw (eq-eqb d 0 e) tt
-    go (inr e) (inl f) c = rw (ne_eqb d 0 e, eq-eqb d 1 f) tt
-    go (inr e) (inr f) (inl lt) = rw (ne_eqb d 0 e, ne_eqb d 1 f, lt-ltb (2 * d) period lt) (omega arith)
-    go (inr e) (inr f) (inr le) = rw (ne_eqb d 0 e, ne_eqb d 1 f, le-ltb (2 * d) period le) tt
+wide_way period d wide =
+    cond_both (d == 0) _ _ IsSmallSeen (λ none. tt) (λ some. cond_both (d == 1) _ _ IsSmallSeen (λ one. tt) (λ more. cond_both (nat_lt (2 * d) period) _ _ IsSmallSeen (λ near. let lt = ltb-true (2 * d) period near in omega (arith, lt)) (λ far. tt)))
 
 wide_answer : (period : ℕ) (last : Option ℕ) (count : ℕ) → IsWide period → IsSmallSeen (seen_after period last count)
-wide_answer period last count wide = go last (cases_lt count period)
-  where
-    go : (o : Option ℕ) → (count < period) ⊎ (period ≤ count) → IsSmallSeen (seen_after period o count)
-    go None (inl lt) = rw (lt-ltb count period lt) tt
-    go None (inr le) = rw (le-ltb count period le) tt
-    go (Some l) (inl lt) = rw (lt-ltb count period lt) (wide_way period (way period l count) wide)
-    go (Some l) (inr le) = rw (le-ltb count period le) tt
-
-count_there : (cs : List ℕ) (ss : List Seen) (i : ℕ) (s : Seen) → length ss ≡ length cs → slice_get ss i ≡ Some s → (count : ℕ) × (slice_get cs i ≡ Some count)
-count_there cs [] i s e h = cc
-count_there [] (x ∷ ss) i s e h = absurd (omega arith)
-count_there (c ∷ cs) (x ∷ ss) zero s e h = (c, refl)
-count_there (c ∷ cs) (x ∷ ss) (suc i) s e h = count_there cs ss i s (omega arith) h
+wide_answer period None count wide = cond_both (nat_lt count period) _ _ IsSmallSeen (λ below. tt) (λ above. tt)
+wide_answer period (Some l) count wide = cond_both (nat_lt count period) _ _ IsSmallSeen (λ below. wide_way period (way period l count) wide) (λ above. tt)
 
 each_small : (ss : List Seen) → ((i : ℕ) (s : Seen) → slice_get ss i ≡ Some s → IsSmallSeen s) → AllByRecursion IsSmallSeen ss
 each_small [] h = tt
@@ -104,15 +88,9 @@ behind_small (x ∷ xs) ys h = behind_small xs ys h.1
 answers_small : (period : ℕ) (cs : List ℕ) (earlier answers : List Seen) → IsWide period → AreSeen period cs (earlier ++ answers) → AllByRecursion IsSmallSeen answers
 answers_small period cs earlier answers wide h =
     behind_small earlier answers (each_small (earlier ++ answers) (λ i s e.
-    let here = count_there cs (earlier ++ answers) i s h.sizes e in
+    let here = same_place cs (earlier ++ answers) i s h.sizes e in
     let is = h.each i here.0 s here.1 e in
     subst IsSmallSeen (sym is.2) (wide_answer period is.0 here.0 wide)))
-
-same_tails : (a c b d : List Seen) → a ++ b ≡ c ++ d → length b ≡ length d → b ≡ d
-same_tails [] [] b d e l = e
-same_tails [] (y ∷ c) b d e l = absurd (omega (arith, ap (λ (s : List Seen). length s) e, length-append (y ∷ c) d))
-same_tails (x ∷ a) [] b d e l = absurd (omega (arith, ap (λ (s : List Seen). length s) e, length-append (x ∷ a) b))
-same_tails (x ∷ a) (y ∷ c) b d e l = let rest : a ++ b ≡ c ++ d = cc in same_tails a c b d rest l
 
 -- ---- the samples of an event
 
@@ -171,7 +149,7 @@ watch_says period id texts wide are c before e objects lines given is also =
     let w = are (forms.Object c) before e in
     let v = are forms.Text before e in
     let seen = (answers_are_one period (counts_of id before ++ counts (samples_of id e.1.kind))).1 (w.earlier ++ w.answers) (v.earlier ++ v.answers) w.are_seen v.are_seen in
-    let same : w.answers ≡ v.answers = same_tails w.earlier v.earlier w.answers v.answers seen (w.one_each ∙ sym v.one_each) in
+    let same : w.answers ≡ v.answers = end_same w.earlier w.answers v.earlier v.answers (w.one_each ∙ sym v.one_each) seen in
     let found = λ (x : List ℕ × Bool). x.1 in
     let as_object = telling (forms.Object c) e.0 e.1.moment in
     let as_text = telling forms.Text e.0 e.1.moment in (

@@ -1,8 +1,8 @@
 -- Fields of objects, by the kinds of their values.
 use Rattle.std.proofs.Common.{◌≡◌, ℕ, ℤ, suc, pos, ◌+◌, ◌/◌, ◌%◌, ◌^◌, ◌<◌, ◌≤◌, ◌==◌, zero, Bool, true, List, [], ◌∷◌, ◌++◌, append-nil, ap, ap₂, refl, sym, subst, ◌∙◌, arith, Some, None, inl, inr}
-use Rattle.std.specs.Prelude.{◌⊎◌, Option, codes, flat_map}
+use Rattle.std.specs.Prelude.{◌⊎◌, Option, codes, flat_map, ◌||◌}
 use Rattle.std.specs.Fmt.{decimal, signed_decimal}
-use Rattle.std.proofs.lemmas.Bool.{cases_eq, cases_lt, ne_eqb}
+use Rattle.std.proofs.lemmas.Bool.{cases_eq, cases_lt, cond_both, ne_eqb}
 use Rattle.jiff_core.proofs.SignedLemmas.{signed_arith}
 use Rattle.jiff_core.proofs.CalendarLemmas.{days_in_month_bounds}
 use Rattle.date_core.specs.DateText.{date_text, moment_text}
@@ -46,18 +46,7 @@ escape_visible [] v = refl
 escape_visible (x ∷ text) v = ap₂ (λ (a b : List ℕ). a ++ b) (escaped_same x v.0.0) (escape_visible text v.1)
 
 escaped_signs : (x : ℕ) → 32 ≤ x → AreSigns (escaped x)
-escaped_signs x h = go (cases_eq x 34) (cases_eq x 92)
-  where
-    bare : AreSigns (x ∷ [])
-    bare = (h, tt)
-
-    behind : AreSigns (92 ∷ x ∷ [])
-    behind = (omega arith, bare)
-
-    go : (x ≡ 34) ⊎ (x ≡ 34 → ⊥) → (x ≡ 92) ⊎ (x ≡ 92 → ⊥) → AreSigns (escaped x)
-    go (inl e) b = subst (λ (n : ℕ). AreSigns (escaped n)) (sym e) (omega arith, (omega arith, tt))
-    go (inr q) (inl e) = subst (λ (n : ℕ). AreSigns (escaped n)) (sym e) (omega arith, (omega arith, tt))
-    go (inr q) (inr b) = rw (ne_eqb x 34 q, ne_eqb x 92 b) bare
+escaped_signs x h = cond_both (x == 34 || x == 92) (92 ∷ x ∷ []) (x ∷ []) AreSigns (λ marked. (omega arith, (h, tt))) (λ plain. (h, tt))
 
 visible_signs : (text : List ℕ) → AreVisible text → AreSigns (flat_map escaped text)
 visible_signs [] v = tt
@@ -97,16 +86,15 @@ string_or_null (Some text) = string text
 
 -- a date, or null
 pub date_is : (n moment : ℕ) → IsTextOf n (string_or_null (date_text moment)) (date_value moment)
-date_is n moment = go (cases_lt moment 253402300800000000)
-  where
-    go : (moment < 253402300800000000) ⊎ (253402300800000000 ≤ moment) → IsTextOf n (string_or_null (date_text moment)) (date_value moment)
-    go (inr late) = subst (λ o. IsTextOf n (string_or_null o) (in_quotes_or_null o)) (sym (text_behind moment late)) (null_is n)
-    go (inl before) =
-        let date = moments_have_dates moment before in
-        let civil = date.4.civil in
-        let days = days_in_month_bounds (pos date.0) date.1 in
-        let plain = moment_plain date.0 date.1 date.2 date.3 (omega (arith, signed_arith, civil.0)) (omega (arith, civil.1)) (omega (arith, civil.2, days)) date.4.within_day in
-        subst (λ o. IsTextOf n (string_or_null o) (in_quotes_or_null o)) (sym date.5) (plain_is n (moment_text date.0 date.1 date.2 date.3) plain)
+date_is n moment = elim (cases_lt moment 253402300800000000) [
+  | inr late ↦ subst (λ o. IsTextOf n (string_or_null o) (in_quotes_or_null o)) (sym (text_behind moment late)) (null_is n)
+  | inl before ↦
+      let date = moments_have_dates moment before in
+      let civil = date.4.civil in
+      let days = days_in_month_bounds (pos date.0) date.1 in
+      let plain = moment_plain date.0 date.1 date.2 date.3 (omega (arith, signed_arith, civil.0)) (omega (arith, civil.1)) (omega (arith, civil.2, days)) date.4.within_day in
+      subst (λ o. IsTextOf n (string_or_null o) (in_quotes_or_null o)) (sym date.5) (plain_is n (moment_text date.0 date.1 date.2 date.3) plain)
+]
 
 -- ---- times
 

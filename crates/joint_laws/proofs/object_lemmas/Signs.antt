@@ -26,7 +26,7 @@ no_feed (c ∷ cs) s (suc k) l e = no_feed cs s.1 k (omega arith) e
 
 pub plain_signs : (text : List ℕ) → ArePlain text → AreSigns text
 plain_signs [] p = tt
-plain_signs (c ∷ cs) p = (p.0.visible, plain_signs cs p.1)
+plain_signs (c ∷ cs) p = (p.0.visible.0, plain_signs cs p.1)
 
 -- ---- numbers
 

@@ -1,6 +1,7 @@
 -- What the lines of control blocks tell, where no block is configured anew: the block of each frame of GOOSE is listed.
-use Rattle.std.proofs.Common.{◌≡◌, ◌⊎◌, ℕ, zero, suc, ◌^◌, ◌<◌, ◌≤◌, Option, Some, None, List, [], ◌∷◌, ◌++◌, length, slice_get, Result, Ok, Err, inl, inr, ap, ap₂, subst, sym, ◌∙◌, refl, arith, append_assoc}
+use Rattle.std.proofs.Common.{◌≡◌, ◌⊎◌, ℕ, zero, suc, ◌<◌, ◌≤◌, Option, Some, None, List, [], ◌∷◌, ◌++◌, slice_get, Result, Ok, Err, inl, inr, ap, ap₂, subst, sym, ◌∙◌, refl, arith, append_assoc}
 use Rattle.std.specs.Prelude.{codes}
+use Rattle.std.specs.List.{AllByRecursion}
 use Rattle.std.specs.Str.{bytes_eq}
 use Rattle.std.specs.Fmt.{decimal}
 use Rattle.std.proofs.lemmas.Bool.{cases_Bool, cond-false, cond-true}
@@ -9,8 +10,6 @@ use Rattle.std.proofs.lemmas.Option.{none-some, same_Some}
 use Rattle.std.proofs.lemmas.Slice.Eq.{bytes_eq-Decides}
 use Rattle.ber_core.specs.Length.{AreOctets, number}
 use Rattle.ber_core.specs.declared.fault.Fault.{Fault}
-use Rattle.ber_core.proofs.Shortest.{number_small}
-use Rattle.mms_data.proofs.SpelledSpellable.{back_octets, front_octets}
 use Rattle.pdu_core.specs.declared.goose.GoosePdu.{GoosePdu}
 use Rattle.pdu_core.specs.declared.sampled.asdu.Asdu.{Asdu}
 use Rattle.pdu_core.specs.Spellable.{IsSpellableGoose}
@@ -25,7 +24,6 @@ use Rattle.list_core.specs.EventLine.{event_rules}
 use Rattle.list_core.specs.Items.{listing}
 use Rattle.list_core.specs.Lines.{Stop}
 use Rattle.list_core.proofs.Cuts.{HasNo-append}
-use Rattle.frame_core.specs.Frame.{SpellsFrame}
 use Rattle.frame_core.specs.computed.FrameReading.{frame_at}
 use Rattle.frame_core.specs.Written.{ApduIsSpellable}
 use Rattle.frame_core.specs.declared.frame.Apdu.{Apdu}
@@ -47,7 +45,10 @@ use Rattle.inventory_engine.proofs.Appending.{sightings-push}
 use Rattle.inventory_engine.proofs.FirstLines.{one_first}
 use Rattle.inventory_engine.proofs.Newest.{newest_is}
 use Rattle.joint_laws.specs.ListedBlocks.{AreListed, IsBlockOf, ListedBlocksAreApart, LineTells}
-use Rattle.joint_laws.proofs.text_lemmas.BlockTexts.{block_says, block_unbroken, decimal_unbroken, no_stream, word_unbroken}
+use Rattle.joint_laws.proofs.line_lemmas.Spelled.{frame_held}
+use Rattle.joint_laws.proofs.line_lemmas.SpokenLines.{all_at, all_both}
+use Rattle.joint_laws.proofs.text_lemmas.BlockTexts.{block_says, block_visible, no_stream}
+use Rattle.joint_laws.proofs.line_lemmas.Visible.{all_visible, decimal_visible, visible_unbroken}
 use Rattle.joint_laws.proofs.text_lemmas.ListedItems.{AreKept, KeepsOctets, list_kept}
 
 -- ---- what an event shows
@@ -58,19 +59,6 @@ Shows seen =
     ((app_id : ℕ) × (p : GoosePdu (Unit {0})) × (app_id < 65536) × IsSpellableGoose p × (seen ≡ block_sighting (configuration_of app_id p) ∷ []))
     ⊎ ((asdus : List (Asdu (Unit {0}))) × (seen ≡ stream_sightings asdus))
 
-address_small : (o : List ℕ) (f : Frame (Unit {0})) → AreOctets o → SpellsFrame f o → f.app_id < 65536
-address_small o f h s =
-    let h0 = subst AreOctets s.parts h in
-    let h1 = back_octets f.destination _ h0 in
-    let h2 = back_octets f.source _ h1 in
-    let h3 = back_octets s.tag _ h2 in
-    let h4 = back_octets s.ether_type _ h3 in
-    let h5 = front_octets s.app_id _ h4 in
-    let size : length s.app_id ≡ 2 = s.addressed.0 in
-    let is : number s.app_id ≡ f.app_id = s.addressed.1 in
-    let small : number s.app_id < 256 ^ 2 = subst (λ (n : ℕ). number s.app_id < 256 ^ n) size (number_small s.app_id h5) in
-    omega (arith, small, is)
-
 apdu_shows : (app_id : ℕ) (a : Apdu (Unit {0})) → app_id < 65536 → ApduIsSpellable a → Shows (sightings_with app_id a)
 apdu_shows app_id (apdus.Goose p) small spelled = inl (app_id, p, small, spelled, refl)
 apdu_shows app_id (apdus.Sampled p) small spelled = inr (p.asdus, refl)
@@ -78,7 +66,7 @@ apdu_shows app_id (apdus.Sampled p) small spelled = inr (p.asdus, refl)
 octets_show : (o : List ℕ) (r : Result (Frame (Unit {0})) Fault) → AreOctets o → frame_at o ≡ r → Shows (sightings_read r)
 octets_show o (Ok f) h is =
     let s = frame_read_found o f is in
-    apdu_shows f.app_id f.apdu (address_small o f h s) (frame_spellable o f h s)
+    apdu_shows f.app_id f.apdu (frame_held o f h s).app_id (frame_spellable o f h s)
 octets_show o (Err e) h is = inr ([], refl)
 
 event_shows : {A : Type 0} (k : EventKind A) → KeepsOctets k → Shows (sightings_of k)
@@ -127,7 +115,7 @@ line_there text front rest n word told is starts small plain unbroken = record {
     after = rest;
     whole = is ∙ ap (λ (l : List ℕ). front ++ l) regrouped;
     starts_line = starts;
-    has_no_lf = HasNo-append 10 (decimal n ++ word) told (HasNo-append 10 (decimal n) word (decimal_unbroken n (omega (arith, small))) plain) unbroken;
+    has_no_lf = HasNo-append 10 (decimal n ++ word) told (HasNo-append 10 (decimal n) word (visible_unbroken (decimal n) (decimal_visible n (omega (arith, small)))) plain) unbroken;
   };
 }
   where
@@ -160,14 +148,14 @@ module _ {A : Type 0} (blocks : List (Block A)) (text : List ℕ) (listed : AreL
 
       by_newest : (o : Option (List ℕ)) → IsNewest earlier (key_of seen_now) o → text ≡ front ++ ((line_after (in_lines n) seen_now o ++ []) ++ rest) → Listed blocks seen_now
       by_newest None is stands =
-          listed.each seen_now.text (line_there text front rest n (codes " block ") seen_now.text stands starts small (word_unbroken (codes " block ") refl) (block_unbroken app_id p low spelled))
+          listed.each seen_now.text (line_there text front rest n (codes " block ") seen_now.text stands starts small (visible_unbroken (codes " block ") (all_visible (codes " block ") refl)) (visible_unbroken seen_now.text (block_visible app_id p low spelled)))
       by_newest (Some last) is stands = elim (cases_Bool (bytes_eq last seen_now.text)) [
         | inl same ↦ seen_before last is ((bytes_eq-Decides last seen_now.text).0 same)
         | inr other ↦
             let line : line_after (in_lines n) seen_now (Some last) ≡ sighting_line n (codes " block-changed ") seen_now.text =
             cond-false (bytes_eq last seen_now.text) [] (sighting_line n (codes " block-changed ") seen_now.text) other in
             absurd (listed.none_changes seen_now.text
-            (line_there text front rest n (codes " block-changed ") seen_now.text (stands ∙ ap (λ (l : List ℕ). front ++ ((l ++ []) ++ rest)) line) starts small (word_unbroken (codes " block-changed ") refl) (block_unbroken app_id p low spelled)))
+            (line_there text front rest n (codes " block-changed ") seen_now.text (stands ∙ ap (λ (l : List ℕ). front ++ ((l ++ []) ++ rest)) line) starts small (visible_unbroken (codes " block-changed ") (all_visible (codes " block-changed ") refl)) (visible_unbroken seen_now.text (block_visible app_id p low spelled))))
       ]
 
       now_listed : text ≡ front ++ (written_of (in_lines n) earlier (seen_now ∷ []) ++ rest) → Listed blocks seen_now
@@ -197,7 +185,7 @@ module _ {A : Type 0} (blocks : List (Block A)) (text : List ℕ) (listed : AreL
   octets_there : (o : List ℕ) (r : Result (Frame (Unit {0})) Fault) → AreOctets o → frame_at o ≡ r → AllListed blocks (sightings_read r) → IsThere blocks (content_by r)
   octets_there o (Ok f) h is all =
       let s = frame_read_found o f is in
-      apdu_there f.app_id f.apdu (address_small o f h s) (frame_spellable o f h s) all
+      apdu_there f.app_id f.apdu (frame_held o f h s).app_id (frame_spellable o f h s) all
   octets_there o (Err e) h is all = tt
 
   event_there : (k : EventKind A) → KeepsOctets k → AllListed blocks (sightings_of k) → IsThere blocks (content_of k)
@@ -236,8 +224,7 @@ abbrev SaysKey : Type 0 → Sighting → Type 0
 SaysKey A s = (block : Block A) → block_in s.text ≡ Some block → key_of s ≡ named block.app_id block.gocb_ref
 
 abbrev SayKeys : Type 0 → List Sighting → Type 0
-SayKeys A [] = Unit {0}
-SayKeys A (s ∷ seen) = SaysKey A s × SayKeys A seen
+SayKeys A seen = AllByRecursion (SaysKey A) seen
 
 streams_say : (A : Type 0) (asdus : List (Asdu (Unit {0}))) → SayKeys A (stream_sightings asdus)
 streams_say A [] = tt
@@ -248,18 +235,9 @@ shown_say A seen (inl w) =
     subst (SayKeys A) (sym w.4) (λ block is. ap (λ (b : Block A). named b.app_id b.gocb_ref) (sym (block_says w.0 w.1 block w.2 w.3 is)), tt)
 shown_say A seen (inr w) = subst (SayKeys A) (sym w.1) (streams_say A w.0)
 
-both_say : (A : Type 0) (xs ys : List Sighting) → SayKeys A xs → SayKeys A ys → SayKeys A (xs ++ ys)
-both_say A [] ys h g = g
-both_say A (x ∷ xs) ys h g = (h.0, both_say A xs ys h.1 g)
-
 items_say : (A : Type 0) (items : List (ℕ × Event A)) → AreKept 1000000 items → SayKeys A (sightings_in items)
 items_say A [] kept = tt
-items_say A (e ∷ items) kept = both_say A (sightings_of e.1.kind) (sightings_in items) (shown_say A (sightings_of e.1.kind) (event_shows e.1.kind kept.1)) (items_say A items kept.2)
-
-says_at : (A : Type 0) (seen : List Sighting) (i : ℕ) (s : Sighting) → SayKeys A seen → slice_get seen i ≡ Some s → SaysKey A s
-says_at A [] i s h at = absurd (none-some s at)
-says_at A (x ∷ seen) zero s h at = subst (SaysKey A) (same_Some x s at) h.0
-says_at A (x ∷ seen) (suc i) s h at = says_at A seen i s h.1 at
+items_say A (e ∷ items) kept = all_both (SaysKey A) (sightings_of e.1.kind) (sightings_in items) (shown_say A (sightings_of e.1.kind) (event_shows e.1.kind kept.1)) (items_say A items kept.2)
 
 pub listed_blocks_are_apart : {A : Type 0} → ListedBlocksAreApart A
 listed_blocks_are_apart {A} z list i j a b one_line other_line name =
@@ -268,8 +246,8 @@ listed_blocks_are_apart {A} z list i j a b one_line other_line name =
     let all = items_say A items (list_kept A z list) in
     let first = one_line.first.is in
     let other = other_line.first.is in
-    let key_a = says_at A seen i first.sighting all first.there a one_line.says in
-    let key_b = says_at A seen j other.sighting all other.there b other_line.says in
+    let key_a = all_at (SaysKey A) seen i first.sighting all first.there a one_line.says in
+    let key_b = all_at (SaysKey A) seen j other.sighting all other.there b other_line.says in
     let keys : named a.app_id a.gocb_ref ≡ named b.app_id b.gocb_ref = ap₂ named name.0 name.1 in
     let same : other_line.key ≡ one_line.key = sym other.has_key ∙ (key_b ∙ (sym keys ∙ (sym key_a ∙ first.has_key))) in
     let one = one_first seen one_line.key i first in

@@ -92,7 +92,7 @@ replay_texts_are_one {A} blocks t u l apart is other =
 -- ---- watch
 
 -- lists that end alike, behind fronts of any kind
-end_same : {X : Type 0} (a b c d : List X) → length b ≡ length d → a ++ b ≡ c ++ d → b ≡ d
+pub end_same : {X : Type 0} (a b c d : List X) → length b ≡ length d → a ++ b ≡ c ++ d → b ≡ d
 end_same [] b [] d sizes is = is
 end_same [] b (y ∷ c) d sizes is = let whole = ap length is in absurd (omega (arith, sizes, whole, length-append c d))
 end_same (x ∷ a) b [] d sizes is = let whole = ap length is in absurd (omega (arith, sizes, whole, length-append a b))

@@ -1,7 +1,7 @@
 -- What `publish` writes of a script is the list of the frames that its calls give, and how it stops.
 use Rattle.std.proofs.Common.{◌≡◌, ℕ, suc, ◌+◌, ◌<◌, ◌≤◌, max, false, Option, Some, None, List, [], ◌∷◌, ◌++◌, length, map, slice_get, option_map, Ok, inl, inr, ap, ap₂, subst, sym, ◌∙◌, refl, arith, append_assoc}
 use Rattle.std.proofs.Math.Seq.{take-append_seam}
-use Rattle.std.proofs.lemmas.List.{append-nil, length-append, length-map, length_push, map-append}
+use Rattle.std.proofs.lemmas.List.{append-nil, length-append, length-map, length_push}
 use Rattle.std.specs.List.{flat_map}
 use Rattle.frame_core.specs.declared.frame.Frame.{Frame}
 use Rattle.list_core.specs.EventText.{event_text}
@@ -32,7 +32,7 @@ use Rattle.exchange_engines.proofs.PublishLemmas.{items-push}
 use Rattle.joint_laws.specs.ListText.{list_text}
 use Rattle.std.specs.Prelude.{◌⊎◌}
 use Rattle.joint_laws.proofs.text_lemmas.OneText.{not_both}
-use Rattle.joint_laws.proofs.text_lemmas.ScriptOrder.{IsSetUp, script_set_up}
+use Rattle.joint_laws.proofs.text_lemmas.ScriptOrder.{IsSetUp, call-push, script_set_up, step-push}
 
 -- the frames of the calls that are left, as they are written
 abbrev sent_text : {A : Type 0} → Type 0 → List (Sent A) → List ℕ
@@ -68,11 +68,7 @@ module _ {A : Type 0} (B : Type 0) (p : Setup A) (t : Text (ScriptItem A) Script
 
   script_push : (done : List Call) (c : Call) (before : List (ℕ × ScriptItem A)) (n : ℕ) → items_of_lines before ≡ script_of p done → items_of_lines (before ++ (n, item_of_call c) ∷ []) ≡ script_of p (done ++ c ∷ [])
   script_push done c before n stands =
-      items-push before (n, item_of_call c) ∙
-      (ap (λ (l : List (ScriptItem A)). l ++ item_of_call c ∷ []) stands ∙
-      ap (λ (l : List (ScriptItem A)). item.Control p.control p.first ∷ l)
-      (append_assoc (map item.Step p.table) (map item_of_call done) (item_of_call c ∷ []) ∙
-      ap (λ (l : List (ScriptItem A)). map item.Step p.table ++ l) (sym (map-append item_of_call done (c ∷ [])))))
+      items-push before (n, item_of_call c) ∙ (ap (λ (l : List (ScriptItem A)). l ++ item_of_call c ∷ []) stands ∙ call-push p done c)
 
   -- the steps that are left write nothing, and the calls stand behind them
   steps_left : (todo done : List Step) (calls : List Call) (before es : List (ℕ × ScriptItem A)) (script : Listing (ScriptItem A) ScriptCause) → length p.table ≤ 16 → done ++ todo ≡ p.table → before ++ es ≡ script.items → items_of_lines before ≡ script_of (setup p.control done p.first) [] → items_of_lines es ≡ map item.Step todo ++ map item_of_call calls → CallsLeft p t calls script (told_after t before es script.stop)
@@ -104,11 +100,7 @@ module _ {A : Type 0} (B : Type 0) (p : Setup A) (t : Text (ScriptItem A) Script
 
       next : items_of_lines (before ++ e ∷ []) ≡ script_of (setup p.control (done ++ s ∷ []) p.first) []
       next =
-          items-push before e ∙
-          (ap₂ (λ (l : List (ScriptItem A)) (x : ScriptItem A). l ++ x ∷ []) stands here ∙
-          ap (λ (l : List (ScriptItem A)). item.Control p.control p.first ∷ l)
-          (ap (λ (l : List (ScriptItem A)). l ++ item.Step s ∷ []) (append-nil (map item.Step done)) ∙
-          (sym (map-append item.Step done (s ∷ [])) ∙ sym (append-nil (map item.Step (done ++ s ∷ []))))))
+          items-push before e ∙ (ap₂ (λ (l : List (ScriptItem A)) (x : ScriptItem A). l ++ x ∷ []) stands here ∙ step-push (setup p.control done p.first) s)
 
   -- so do the control line and all steps
   script_left : (calls : List Call) (es : List (ℕ × ScriptItem A)) (script : Listing (ScriptItem A) ScriptCause) → length p.table ≤ 16 → es ≡ script.items → items_of_lines es ≡ script_of p calls → CallsLeft p t calls script (told_after t [] es script.stop)

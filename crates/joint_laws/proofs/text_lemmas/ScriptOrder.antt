@@ -52,12 +52,12 @@ use Rattle.joint_laws.proofs.text_lemmas.ScriptSizes.{ControlIsHeld, LivesBelow,
 
 -- ---- scripts that grow
 
-call-push : {A : Type 0} (p : Setup A) (calls : List Call) (c : Call) → script_of p calls ++ item_of_call c ∷ [] ≡ script_of p (calls ++ c ∷ [])
+pub call-push : {A : Type 0} (p : Setup A) (calls : List Call) (c : Call) → script_of p calls ++ item_of_call c ∷ [] ≡ script_of p (calls ++ c ∷ [])
 call-push p calls c =
     ap (λ (l : List (ScriptItem _)). item.Control p.control p.first ∷ l)
     (append_assoc (map item.Step p.table) (map item_of_call calls) (item_of_call c ∷ []) ∙ ap (λ (l : List (ScriptItem _)). map item.Step p.table ++ l) (sym (map-append item_of_call calls (c ∷ []))))
 
-step-push : {A : Type 0} (p : Setup A) (s : Step) → script_of p [] ++ item.Step s ∷ [] ≡ script_of (with_step p s) []
+pub step-push : {A : Type 0} (p : Setup A) (s : Step) → script_of p [] ++ item.Step s ∷ [] ≡ script_of (with_step p s) []
 step-push p s =
     ap (λ (l : List (ScriptItem _)). item.Control p.control p.first ∷ l)
     (ap (λ (l : List (ScriptItem _)). l ++ item.Step s ∷ []) (append-nil (map item.Step p.table)) ∙ sym (map-append item.Step p.table (s ∷ [])) ∙ sym (append-nil (map item.Step (p.table ++ s ∷ []))))
@@ -119,13 +119,11 @@ Goes before (Err why) = Unit {0}
 module _ {A : Type 0} (before : List (ScriptItem A)) where
   -- ---- the control line
 
-  good_control : (q : ScriptPart) (o : Option ControlLine) → Settles q before → SaysSizes o → Goes before (control_said q o)
+  good_control : (q : ScriptPart) (o : Option ControlLine) → Settles q before → SaysSizes A o → Goes before (control_said q o)
   good_control part.Control (Some l) h k =
-      let rev : l.numbers.conf_rev ≤ 4294967295 = k.conf_rev in
-      let count : l.numbers.entries ≤ 4294967295 = k.entries in
       cond_both (l.numbers.first == 0) _ _ (Goes before) (λ none. tt) (λ some. (
         h,
-        record { to = k.to; from = k.from; to_octets = k.to_octets; from_octets = k.from_octets; tag = k.tag; app_id = k.app_id; conf_rev = omega (arith, rev); entries = omega (arith, count) },
+        k.0,
         record {
           p = setup (block_of_line l) [] l.numbers.first;
           items = ap (λ (b : List (ScriptItem A)). b ++ item.Control (block_of_line l) l.numbers.first ∷ []) h;
@@ -133,7 +131,7 @@ module _ {A : Type 0} (before : List (ScriptItem A)) where
           room = omega arith;
           good = refl;
           some = not_zero l.numbers.first some;
-          most = k.first;
+          most = k.1;
         },
       ))
     where
@@ -227,7 +225,7 @@ module _ {A : Type 0} (before : List (ScriptItem A)) where
   good_all : (unit : MomentUnit) (q : ScriptPart) (fields : List (List ℕ)) → Settles q before → Goes before (all_said unit q fields)
   good_all unit q [] h = tt
   good_all unit q (name ∷ fields) h =
-      cond_both (bytes_eq name (codes "control")) _ _ (Goes before) (λ e. good_control q (control_of fields) h (control_sizes fields))
+      cond_both (bytes_eq name (codes "control")) _ _ (Goes before) (λ e. good_control q (control_of fields) h (control_sizes A fields))
       (λ e. cond_both (bytes_eq name (codes "step")) _ _ (Goes before) (λ e. good_step q (step_said_by fields) h (steps_low fields))
       (λ e. cond_both (bytes_eq name (codes "change")) _ _ (Goes before) (λ e. good_change unit q fields h)
       (λ e. cond_both (bytes_eq name (codes "poll")) _ _ (Goes before) (λ e. good_poll unit q fields h) (λ e. tt))))

@@ -15,7 +15,7 @@ use Rattle.publish_core.specs.Table.{step_at}
 use Rattle.joint_laws.specs.Stems.{HasSizes}
 use Rattle.script_core.specs.declared.script_control.ControlEnd.{ControlEnd}
 use Rattle.block_core.specs.Commas.{at_most_32_bits, number_by, octets_in, text_in, word_in}
-use Rattle.script_core.specs.computed.ControlLine.{ControlLine, control_of, control_with, numbers_with}
+use Rattle.script_core.specs.computed.ControlLine.{ControlLine, block_of_line, control_of, control_with, numbers_with}
 use Rattle.script_core.specs.ScriptFields.{all_octets_in, flag_in, tag_in}
 use Rattle.script_core.specs.computed.StepLine.{step_said_by, step_with}
 use Rattle.list_core.specs.Decimal.{decimal_of}
@@ -121,33 +121,25 @@ pub record ControlIsHeld {A : Type 0} (control : Control A) : Type 0 where
   pub conf_rev : control.conf_rev < 2 ^ 32
   pub entries : control.entries < 2 ^ 32
 
-pub record LineIsHeld (l : ControlLine) : Type 0 where
-  pub to : length l.destination ≡ 6
-  pub from : length l.source ≡ 6
-  pub to_octets : AreOctets l.destination
-  pub from_octets : AreOctets l.source
-  pub tag : TagIsHeld l.tag
-  pub app_id : l.app_id < 65536
-  pub conf_rev : l.numbers.conf_rev ≤ 4294967295
-  pub entries : l.numbers.entries ≤ 4294967295
-  pub first : l.numbers.first ≤ 4294967295
+-- the control block of a line, and the first status number
+abbrev pub SaysSizes : Type 0 → Option ControlLine → Type 0
+SaysSizes A o = IfSome o (λ l. ControlIsHeld {A = A} (block_of_line l) × (l.numbers.first ≤ 4294967295))
 
-abbrev pub SaysSizes : Option ControlLine → Type 0
-SaysSizes o = IfSome o LineIsHeld
+line_sizes : (A : Type 0) (a b : Option (List ℕ)) (c : Option (Option VlanTag)) (d : Option ℕ) (f g h : Option (List ℕ)) (n : Option ControlEnd) →
+    Sized 6 a → Sized 6 b → HasTag c → IsWord d → HaveSizes n → SaysSizes A (control_with a b c d f g h n)
+line_sizes A (Some a) (Some b) (Some c) (Some d) (Some f) (Some g) (Some h) (Some n) p q r s k =
+    let rev = k.0 in
+    let count = k.1 in
+    (record { to = p.0; from = q.0; to_octets = p.1; from_octets = q.1; tag = r; app_id = s; conf_rev = omega (arith, rev); entries = omega (arith, count) }, k.2)
+line_sizes _ _ _ _ _ _ _ _ _ _ _ _ _ _ = tt
 
-line_sizes : (a b : Option (List ℕ)) (c : Option (Option VlanTag)) (d : Option ℕ) (f g h : Option (List ℕ)) (n : Option ControlEnd) →
-    Sized 6 a → Sized 6 b → HasTag c → IsWord d → HaveSizes n → SaysSizes (control_with a b c d f g h n)
-line_sizes (Some a) (Some b) (Some c) (Some d) (Some f) (Some g) (Some h) (Some n) p q r s k =
-    record { to = p.0; from = q.0; to_octets = p.1; from_octets = q.1; tag = r; app_id = s; conf_rev = k.0; entries = k.1; first = k.2 }
-line_sizes _ _ _ _ _ _ _ _ _ _ _ _ _ = tt
-
-pub control_sizes : (fields : List (List ℕ)) → SaysSizes (control_of fields)
-control_sizes (a ∷ b ∷ c ∷ d ∷ f ∷ g ∷ h ∷ i ∷ j ∷ k ∷ l ∷ m ∷ []) =
-    line_sizes (octets_in 6 a) (octets_in 6 b) (tag_in c) (word_in d) (text_in f) (text_in g) (text_in h)
+pub control_sizes : (A : Type 0) (fields : List (List ℕ)) → SaysSizes A (control_of fields)
+control_sizes A (a ∷ b ∷ c ∷ d ∷ f ∷ g ∷ h ∷ i ∷ j ∷ k ∷ l ∷ m ∷ []) =
+    line_sizes A (octets_in 6 a) (octets_in 6 b) (tag_in c) (word_in d) (text_in f) (text_in g) (text_in h)
     (numbers_with (number_by i) (number_by j) (flag_in k) (flag_in l) (number_by m))
     (octets_sized 6 a) (octets_sized 6 b) (tag_low c) (word_low d)
     (numbers_low (number_by i) (number_by j) (flag_in k) (flag_in l) (number_by m) (below (decimal_of 10 i)) (below (decimal_of 10 j)) (below (decimal_of 10 m)))
-control_sizes _ = tt
+control_sizes _ _ = tt
 
 -- ---- the steps
 

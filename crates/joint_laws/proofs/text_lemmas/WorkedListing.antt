@@ -12,7 +12,7 @@ use Rattle.list_core.proofs.Cuts.{cut-part}
 use Rattle.block_core.specs.declared.block.Block.{Block}
 use Rattle.block_core.specs.BlockText.{block_in}
 use Rattle.joint_laws.specs.ListedBlocks.{AreListed, HasLine}
-use Rattle.joint_laws.proofs.text_lemmas.BlockTexts.{word_unbroken}
+use Rattle.joint_laws.proofs.line_lemmas.Visible.{all_visible, visible_unbroken}
 
 abbrev line : List ℕ
 line = codes "2 block 0001,G,D,,1,1"
@@ -61,7 +61,7 @@ told_here n what few is =
     ap (drop 2) same
 
 line_unbroken : HasNo 10 line
-line_unbroken = word_unbroken line refl
+line_unbroken = visible_unbroken line (all_visible line refl)
 
 the_line : (n : ℕ) (word what : List ℕ) → n ≤ 1000000 → HasLine (line ++ 10 ∷ []) (decimal n ++ (32 ∷ word) ++ what) → word ++ what ≡ codes "block 0001,G,D,,1,1"
 the_line n word what few h = told_here n (word ++ what) few (sym (append_assoc (decimal n) (32 ∷ word) what) ∙ one_line line (decimal n ++ (32 ∷ word) ++ what) line_unbroken h)
