@@ -4,6 +4,4 @@ pub mod Stemming
 pub mod Actions
 pub mod WrittenForms
 pub mod OneFrame
-pub mod Replaying
-pub mod PublishedLists
 pub mod WorkedRun

@@ -5,14 +5,8 @@ pub mod Visible
 pub mod Spelled
 pub mod Optional
 pub mod Told
-pub mod CheckSaid
-pub mod WatchSaid
-pub mod BlocksSaid
 pub mod EntrySaid
-pub mod ReplaySaid
 pub mod AsduSaid
 pub mod ShowSaid
 pub mod LossGiven
-pub mod LossLineSaid
-pub mod LossesSaid
 pub mod AllSaid

@@ -6,6 +6,4 @@ pub mod Names
 pub mod Fields
 pub mod Spoken
 pub mod MemberValues
-pub mod CauseNames
 pub mod Lines
-pub mod FaultLines

@@ -1,14 +1,11 @@
 pub mod PlainTexts
-pub mod ScriptOrder
 pub mod CommentLines
 pub mod WrittenLists
 pub mod WrittenOctets
 pub mod OneText
 pub mod ScriptSizes
-pub mod ScriptLimits
 pub mod ScriptRuns
 pub mod PublishedScripts
-pub mod PublishedTexts
 pub mod WorkedExamples
 pub mod ListedItems
 pub mod BlockTexts
@@ -16,6 +13,4 @@ pub mod ReplayLines
 pub mod CaptureReplays
 pub mod ChangesTold
 pub mod WrittenLines
-pub mod ListedTexts
-pub mod ListedBlocks
 pub mod WorkedListing

@@ -37,7 +37,6 @@ entries_read blocks events readings i es are w =
 entries_there : {B : Type 0} (blocks : List (Block B)) (events : List (Event B)) (readings : List EventRead) (i : ℕ) (r : EventRead) → AreRead events readings → slice_get readings i ≡ Some r → (es : List (Entry B)) × AreEntriesAt blocks events i es
 entries_there {B} blocks events readings i r are at =
     let whole = runs_are_whole blocks events in
-    let size : length (run_events (fresh_state blocks) (map reading_of events)) ≡ length events = whole.sizes in
     let read : length readings ≡ length events = read_length events readings are in
     let below : i < length readings = slice_get_within readings i r at in
     let es : List (Entry B) = get_or (run_events (fresh_state blocks) (map reading_of events)) i [] in
@@ -58,7 +57,6 @@ action : {B : Type 0} (blocks : List (Block B)) (events : List (Event B)) (readi
 action {B} blocks events readings b block i es number sequence t members apart at are w has =
     let told = (acts_are_told blocks readings i es b number sequence t members apart (entries_read blocks events readings i es are w)).0 has in
     let same : told.block ≡ block = same_Some told.block block (sym told.at ∙ at) in
-    let entry = told.told in
     record {
       acts = subst (λ (y : Block B). Acts (trace_of_block y readings) i) same told.acts;
       reading = told.event;
@@ -135,7 +133,6 @@ module _ {A B : Type 0} (e : EpochOfRun A B) where
         comes = record { facts = t.facts; good = t.good; numbered = t.numbered };
         before = λ j d other lt.
             let most : other.facts.state ≤ e.publisher.first + c = t.before j other.facts other.good lt in
-            let number : other.facts.state ≡ e.publisher.first + d = other.numbered in
             omega arith;
       }
 
@@ -149,7 +146,6 @@ module _ {A B : Type 0} (e : EpochOfRun A B) where
         before = λ j g good lt.
             let d = good_number j g good in
             let most : d.0 ≤ c = w.before j d.0 d.1 lt in
-            let number : g.state ≡ e.publisher.first + d.0 = d.2 in
             omega arith;
       }) in
       (a.position, acted_there c a.position a.facts a.good a.acts a.numbered)
@@ -159,8 +155,6 @@ module _ {A B : Type 0} (e : EpochOfRun A B) where
       let x = acted_number c i u in
       let y = acted_number d j v in
       let less : x.0.state < y.0.state = numbers_rise (trace_of_epoch e) e.start i j x.0 y.0 x.1 y.1 lt x.2 y.2 in
-      let first : x.0.state ≡ e.publisher.first + c = x.3 in
-      let second : y.0.state ≡ e.publisher.first + d = y.3 in
       omega arith
 
   order : (c d i j : ℕ) → ActsOnChange e c i → ActsOnChange e d j → i ≤ j → c ≤ d
@@ -170,8 +164,6 @@ module _ {A B : Type 0} (e : EpochOfRun A B) where
         let y = acted_number d j v in
         let facts : x.0 ≡ y.0 = same_Some x.0 y.0 (sym x.1.good ∙ (ap (trace_of_epoch e).good same ∙ y.1.good)) in
         let state : x.0.state ≡ y.0.state = ap (λ (f : Facts). f.state) facts in
-        let first : x.0.state ≡ e.publisher.first + c = x.3 in
-        let second : y.0.state ≡ e.publisher.first + d = y.3 in
         omega arith
     | inr (inl lt) ↦ let less : c < d = rise c d i j u v lt in omega arith
     | inr (inr gt) ↦ absurd (omega arith)

@@ -20,7 +20,6 @@ changes_grow t i (suc n) le = elim (cases_lt i (suc n)) [
 counted : (t : CallTrace) (i c : ℕ) (change : Change) → IsChange t i c change → changes t (suc i) ≡ suc c
 counted t i c change x =
     let one : changes_of (t.request i) ≡ 1 = ap changes_of x.request in
-    let before : changes t i ≡ c = x.before in
     omega arith
 
 -- one call is change c
@@ -28,7 +27,6 @@ one_call : (t : CallTrace) (i j c : ℕ) (a b : Change) → IsChange t i c a →
 one_call t i j c a b x y lt =
     let up : changes t (suc i) ≤ changes t j = changes_grow t (suc i) j lt in
     let past : changes t (suc i) ≡ suc c = counted t i c a x in
-    let before : changes t j ≡ c = y.before in
     omega arith
 
 one_change : (t : CallTrace) (i j c : ℕ) (a b : Change) → IsChange t i c a → IsChange t j c b → a ≡ b
@@ -40,8 +38,6 @@ one_change t i j c a b x y = elim (cases_order i j) [
 
 pub published_is_one : {A : Type 0} → PublishedIsOne A
 published_is_one p calls number x y u v =
-    let first : number ≡ p.first + u.c = u.numbered in
-    let second : number ≡ p.first + v.c = v.numbered in
     let same : u.c ≡ v.c = omega arith in
     one_change (trace_of_calls calls) u.call v.call v.c x y (subst (λ (c : ℕ). IsChange (trace_of_calls calls) u.call c x) same u.is_change) v.is_change
 

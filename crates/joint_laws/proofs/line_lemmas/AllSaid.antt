@@ -4,16 +4,12 @@ use Rattle.frame_engines.specs.CheckObject.{check_event_in}
 use Rattle.frame_engines.specs.ShowObject.{show_allows}
 use Rattle.exchange_engines.specs.ReplayText.{entries_in}
 use Rattle.joint_laws.specs.LinesBack.{LinesAreHadBack}
-use Rattle.joint_laws.proofs.line_lemmas.BlocksSaid.{blocks_says}
-use Rattle.joint_laws.proofs.line_lemmas.CheckSaid.{check_says}
-use Rattle.joint_laws.proofs.line_lemmas.EntrySaid.{twice_says}
+use Rattle.joint_laws.proofs.line_lemmas.ShowSaid.{blocks_says, check_says, show_says, watch_says}
+use Rattle.joint_laws.proofs.line_lemmas.EntrySaid.{twice_says, replay_says}
 use Rattle.joint_laws.proofs.line_lemmas.LineSaid.{back}
-use Rattle.joint_laws.proofs.line_lemmas.LossesSaid.{losses_says}
-use Rattle.joint_laws.proofs.line_lemmas.ReplaySaid.{replay_says}
-use Rattle.joint_laws.proofs.line_lemmas.ShowSaid.{show_says}
+use Rattle.joint_laws.proofs.line_lemmas.LossGiven.{losses_says}
 use Rattle.joint_laws.proofs.line_lemmas.SpokenLines.{back_none, gives_lines}
 use Rattle.joint_laws.proofs.line_lemmas.Told.{say_capture_fault, say_list_fault}
-use Rattle.joint_laws.proofs.line_lemmas.WatchSaid.{watch_says}
 
 pub lines_had_back : {A C F : Type 0} → LinesAreHadBack A C F
 lines_had_back {A} {C} {F} = (

@@ -16,8 +16,7 @@ use Rattle.joint_laws.proofs.object_lemmas.PlainTexts.{ArePlain, by_test}
 use Rattle.joint_laws.proofs.object_lemmas.Containers.{Named, fields_of, members_of, names_of}
 use Rattle.joint_laws.proofs.object_lemmas.Names.{all_differ}
 use Rattle.joint_laws.proofs.object_lemmas.Fields.{word_field}
-use Rattle.joint_laws.proofs.object_lemmas.Lines.{counted_field, event_is, event_json, moment_then}
-use Rattle.joint_laws.proofs.object_lemmas.FaultLines.{capture_fault_is, capture_fault_named, fault_named, list_fault_is, list_fault_named}
+use Rattle.joint_laws.proofs.object_lemmas.Lines.{counted_field, event_is, event_json, moment_then, capture_fault_is, capture_fault_named, fault_named, list_fault_is, list_fault_named}
 use Rattle.frame_engines.specs.ShowObject.{clock_object, mode_object}
 use Rattle.frame_engines.specs.CheckObject.{note_object_unless}
 use Rattle.frame_engines.specs.CheckText.{note_unless}

@@ -1,5 +1,5 @@
 -- Lines that are an object of JSON.
-use Rattle.std.proofs.Common.{◌≡◌, ℕ, suc, ◌^◌, ◌<◌, true, List, ◌∷◌, ◌++◌, refl, arith, Some}
+use Rattle.std.proofs.Common.{◌≡◌, ℕ, suc, ◌^◌, ◌<◌, true, List, ◌∷◌, ◌++◌, refl, arith, Some, []}
 use Rattle.std.specs.Prelude.{codes}
 use Rattle.std.specs.Fmt.{decimal}
 use Rattle.list_core.specs.Cuts.{HasNo}
@@ -8,16 +8,27 @@ use Rattle.json.specs.Strict.{HasUniqueKeys}
 use Rattle.date_core.specs.DateText.{date_text}
 use Rattle.object_core.specs.declared.counted.Counted.{Counted}
 use Rattle.object_core.specs.declared.counted.Counted.TheVariants as counted
-use Rattle.object_core.specs.EventObject.{counted_name}
+use Rattle.object_core.specs.EventObject.{counted_name, capture_fault_object, fault_object, list_fault_object}
 use Rattle.object_core.specs.Objects as objects
 use Rattle.object_core.specs.Objects.{date_value, object_line}
-use Rattle.joint_laws.specs.JsonText.{IsJsonLine}
+use Rattle.joint_laws.specs.JsonText.{IsJsonLine, CaptureFaultsAreJson, FaultsAreJson, ListFaultsAreJson}
 use Rattle.joint_laws.proofs.object_lemmas.PlainTexts.{ArePlain, by_test}
 use Rattle.joint_laws.proofs.object_lemmas.Signs.{no_feed}
 use Rattle.joint_laws.proofs.object_lemmas.Values.{deeper, decimal_is, read_back}
 use Rattle.joint_laws.proofs.object_lemmas.Containers.{Named, fields_of, members_of, names_of, object_is}
 use Rattle.joint_laws.proofs.object_lemmas.Names.{all_differ, are_distinct}
 use Rattle.joint_laws.proofs.object_lemmas.Fields.{by, date_is, decimal_field, string_or_null, word_field}
+use Rattle.ber_core.specs.declared.fault.Cause.{Cause}
+use Rattle.ber_core.specs.declared.fault.Cause.TheVariants as cause
+use Rattle.list_core.specs.declared.list_fault.ListCause.{ListCause}
+use Rattle.list_core.specs.declared.list_fault.ListCause.TheVariants as list
+use Rattle.capture_core.specs.declared.capture_fault.CaptureCause.{CaptureCause}
+use Rattle.capture_core.specs.declared.capture_fault.CaptureCause.TheVariants as capture
+use Rattle.text_core.specs.CaptureNames.{name_of_capture_cause}
+use Rattle.text_core.specs.Names.{name_of_cause, name_of_list_cause}
+use Rattle.ber_core.specs.declared.fault.Fault.{Fault}
+use Rattle.list_core.specs.declared.list_fault.ListFault.{ListFault}
+use Rattle.capture_core.specs.declared.capture_fault.CaptureFault.{CaptureFault}
 
 -- the line is this value of JSON, and a line feed
 pub record IsLineOf (json : Json) (line : List ℕ) : Type 0 where
@@ -62,3 +73,92 @@ pub event_is : (n : ℕ) (c : Counted) (m : ℕ) (small : m < 2 ^ 64) (vs : List
     → IsLineOf (event_json c m small vs) (object_line (fields_of (counted_field n c m small ∷ vs)))
 event_is n counted.Line m small vs h as_line as_packet = object_line_is n (counted_field n counted.Line m small) vs h as_line
 event_is n counted.Packet m small vs h as_line as_packet = object_line_is n (counted_field n counted.Packet m small) vs h as_packet
+
+-- ---- in the names of causes nothing is escaped
+
+pub cause_plain : (c : Cause) → ArePlain (name_of_cause c)
+cause_plain cause.Ends = by_test (codes "Ends") refl
+cause_plain cause.HighTag = by_test (codes "HighTag") refl
+cause_plain cause.Indefinite = by_test (codes "Indefinite") refl
+cause_plain cause.LengthForm = by_test (codes "LengthForm") refl
+cause_plain cause.LengthPastEnd = by_test (codes "LengthPastEnd") refl
+cause_plain cause.IntegerLength = by_test (codes "IntegerLength") refl
+cause_plain cause.UnexpectedTag = by_test (codes "UnexpectedTag") refl
+cause_plain cause.BooleanLength = by_test (codes "BooleanLength") refl
+cause_plain cause.IntegerRange = by_test (codes "IntegerRange") refl
+cause_plain cause.BitUnused = by_test (codes "BitUnused") refl
+cause_plain cause.FixedLength = by_test (codes "FixedLength") refl
+cause_plain cause.NotVisible = by_test (codes "NotVisible") refl
+cause_plain cause.TooDeep = by_test (codes "TooDeep") refl
+cause_plain cause.ElementMissing = by_test (codes "ElementMissing") refl
+cause_plain cause.ExtraOctets = by_test (codes "ExtraOctets") refl
+cause_plain cause.EntryCount = by_test (codes "EntryCount") refl
+cause_plain cause.AsduCount = by_test (codes "AsduCount") refl
+cause_plain cause.FrameTooLong = by_test (codes "FrameTooLong") refl
+cause_plain cause.EtherType = by_test (codes "EtherType") refl
+cause_plain cause.LengthField = by_test (codes "LengthField") refl
+cause_plain cause.Truncated = by_test (codes "Truncated") refl
+
+pub list_cause_plain : (c : ListCause) → ArePlain (name_of_list_cause c)
+list_cause_plain list.LineTooLong = by_test (codes "LineTooLong") refl
+list_cause_plain list.LineForm = by_test (codes "LineForm") refl
+list_cause_plain list.Moment = by_test (codes "Moment") refl
+list_cause_plain list.Hex = by_test (codes "Hex") refl
+list_cause_plain list.ListTooLong = by_test (codes "ListTooLong") refl
+list_cause_plain list.ReadFailed = by_test (codes "ReadFailed") refl
+
+pub capture_cause_plain : (c : CaptureCause) → ArePlain (name_of_capture_cause c)
+capture_cause_plain capture.CaptureHeader = by_test (codes "CaptureHeader") refl
+capture_cause_plain capture.CaptureShort = by_test (codes "CaptureShort") refl
+capture_cause_plain capture.RecordLength = by_test (codes "RecordLength") refl
+capture_cause_plain capture.TooManyRecords = by_test (codes "TooManyRecords") refl
+capture_cause_plain capture.ReadFailed = by_test (codes "ReadFailed") refl
+capture_cause_plain capture.BlockForm = by_test (codes "BlockForm") refl
+capture_cause_plain capture.BlockLength = by_test (codes "BlockLength") refl
+capture_cause_plain capture.Interface = by_test (codes "Interface") refl
+capture_cause_plain capture.PacketTime = by_test (codes "PacketTime") refl
+
+-- ---- the objects of faults are lines of JSON
+
+-- the place and the cause of a frame's fault
+abbrev pub fault_named : (f : Fault) → f.place < 2 ^ 64 → List (Named 0)
+fault_named f small = decimal_field 0 (codes "offset") f.place refl small ∷ word_field 0 (codes "error") (name_of_cause f.cause) refl (cause_plain f.cause) ∷ []
+
+abbrev pub fault_json : (c : Counted) (n moment : ℕ) (f : Fault) → n < 2 ^ 64 → moment < 2 ^ 64 → f.place < 2 ^ 64 → Json
+fault_json c n moment f small past place = event_json c n small (moment_then 0 moment (codes "fault") past (by_test (codes "fault") refl) (fault_named f place))
+
+pub fault_is : (c : Counted) (n moment : ℕ) (f : Fault) (small : n < 2 ^ 64) (past : moment < 2 ^ 64) (place : f.place < 2 ^ 64) → IsLineOf (fault_json c n moment f small past place) (fault_object c n moment f)
+fault_is c n moment f small past place = event_is 0 c n small (moment_then 0 moment (codes "fault") past (by_test (codes "fault") refl) (fault_named f place)) (omega arith) refl refl
+
+abbrev pub list_fault_named : (f : ListFault) → f.line < 2 ^ 64 → List (Named 0)
+list_fault_named f small =
+    decimal_field 0 (codes "line") f.line refl small
+    ∷ word_field 0 (codes "kind") (codes "list") refl (by_test (codes "list") refl)
+    ∷ word_field 0 (codes "error") (name_of_list_cause f.cause) refl (list_cause_plain f.cause)
+    ∷ []
+
+pub list_fault_is : (f : ListFault) (small : f.line < 2 ^ 64) → IsLineOf (object (members_of (list_fault_named f small))) (list_fault_object f)
+list_fault_is f small =
+    object_line_is 0 (decimal_field 0 (codes "line") f.line refl small) (word_field 0 (codes "kind") (codes "list") refl (by_test (codes "list") refl)
+    ∷ word_field 0 (codes "error") (name_of_list_cause f.cause) refl (list_cause_plain f.cause) ∷ []) (omega arith) refl
+
+abbrev pub capture_fault_named : (f : CaptureFault) → f.number < 2 ^ 64 → List (Named 0)
+capture_fault_named f small =
+    decimal_field 0 (codes "packet") f.number refl small
+    ∷ word_field 0 (codes "kind") (codes "capture") refl (by_test (codes "capture") refl)
+    ∷ word_field 0 (codes "error") (name_of_capture_cause f.cause) refl (capture_cause_plain f.cause)
+    ∷ []
+
+pub capture_fault_is : (f : CaptureFault) (small : f.number < 2 ^ 64) → IsLineOf (object (members_of (capture_fault_named f small))) (capture_fault_object f)
+capture_fault_is f small =
+    object_line_is 0 (decimal_field 0 (codes "packet") f.number refl small) (word_field 0 (codes "kind") (codes "capture") refl (by_test (codes "capture") refl)
+    ∷ word_field 0 (codes "error") (name_of_capture_cause f.cause) refl (capture_cause_plain f.cause) ∷ []) (omega arith) refl
+
+pub faults_are_json : FaultsAreJson
+faults_are_json c n moment f small past place = json_line _ _ (fault_is c n moment f small past place)
+
+pub list_faults_are_json : ListFaultsAreJson
+list_faults_are_json f small = json_line _ _ (list_fault_is f small)
+
+pub capture_faults_are_json : CaptureFaultsAreJson
+capture_faults_are_json f small = json_line _ _ (capture_fault_is f small)

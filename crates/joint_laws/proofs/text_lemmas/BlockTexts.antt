@@ -20,6 +20,7 @@ use Rattle.pdu_core.specs.Spellable.{IsSpellableGoose}
 use Rattle.inventory_engine.specs.Configuration.{Configuration, configuration_of}
 use Rattle.inventory_engine.specs.Sightings.{block_parts, block_text, has_fields, named_parts, stream_parts, text_or_none}
 use Rattle.inventory_engine.specs.Laws.{block_told}
+use Rattle.joint_laws.proofs.object_lemmas.PlainTexts.{are_plain}
 use Rattle.joint_laws.proofs.line_lemmas.Visible.{all_visible, decimal_visible, four_visible, quoted_or_dash_visible, quoted_visible, visible_both}
 use Rattle.inventory_engine.proofs.BlockBack.{blocks_back}
 
@@ -39,28 +40,15 @@ block_visible app_id p small spelled =
     let comma = all_visible (codes ",") refl in
     let rev = decimal_visible p.conf_rev (omega (arith, spelled.conf_rev)) in
     let count = decimal_visible (length p.members) (omega (arith, spelled.entries)) in
+    let ref = quoted_visible p.gocb_ref spelled.gocb_ref in
+    let set = quoted_visible p.dat_set spelled.dat_set in
+    let id = quoted_or_dash_visible p.go_id spelled.go_id in
+    let word = λ (w : List ℕ) (h : are_plain w ≡ true). all_visible w h in
     let block = configuration_of app_id p in
     cond_both (has_fields block) (concat (block_parts block)) (concat (named_parts block)) AreVisible
     (λ has. words_visible (block_parts block) (app, (comma, (spelled.gocb_ref, (comma, (spelled.dat_set, (comma, (none_visible p.go_id spelled.go_id, (comma, (rev, (comma, (count, tt))))))))))))
-    (λ lacks. words_visible (named_parts block) (
-      all_visible (codes "appid=") refl,
-      (
-        app,
-        (
-          all_visible (codes " ref=") refl,
-          (
-            quoted_visible p.gocb_ref spelled.gocb_ref,
-            (
-              all_visible (codes " set=") refl,
-              (
-                quoted_visible p.dat_set spelled.dat_set,
-                (all_visible (codes " id=") refl, (quoted_or_dash_visible p.go_id spelled.go_id, (all_visible (codes " rev=") refl, (rev, (all_visible (codes " entries=") refl, (count, tt)))))),
-              ),
-            ),
-          ),
-        ),
-      ),
-    ))
+    (λ lacks. words_visible (named_parts block)
+    (word (codes "appid=") refl, (app, (word (codes " ref=") refl, (ref, (word (codes " set=") refl, (set, (word (codes " id=") refl, (id, (word (codes " rev=") refl, (rev, (word (codes " entries=") refl, (count, tt)))))))))))))
 
 -- ---- what is a BLOCK
 

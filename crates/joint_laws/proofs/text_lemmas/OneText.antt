@@ -40,7 +40,7 @@ use Rattle.inventory_engine.specs.BlocksText.{IsBlocksText, in_lines as blocks_l
 use Rattle.inventory_engine.proofs.FirstLines.{lines_one}
 use Rattle.joint_laws.specs.OneText.{SaySame}
 use Rattle.joint_laws.specs.OneTextLaws.{BlocksTextsAreOne, PublishTextsAreOne, ReplayTextsAreOne, WatchTextsAreOne}
-use Rattle.joint_laws.proofs.text_lemmas.ScriptOrder.{scripts_in_order}
+use Rattle.joint_laws.proofs.text_lemmas.ScriptSizes.{scripts_in_order}
 
 module _ {X C : Type 0} (t u : Text X C) (lasts : (f : ItemFault C) → t.last f ≡ u.last f) where
   stop_same : (stop : Stop (ItemFault C)) → told_stop t stop ≡ told_stop u stop

@@ -32,7 +32,7 @@ use Rattle.exchange_engines.proofs.PublishLemmas.{items-push}
 use Rattle.joint_laws.specs.ListText.{list_text}
 use Rattle.std.specs.Prelude.{◌⊎◌}
 use Rattle.joint_laws.proofs.text_lemmas.OneText.{not_both}
-use Rattle.joint_laws.proofs.text_lemmas.ScriptOrder.{IsSetUp, call-push, script_set_up, step-push}
+use Rattle.joint_laws.proofs.text_lemmas.ScriptSizes.{IsSetUp, call-push, script_set_up, step-push}
 
 -- the frames of the calls that are left, as they are written
 abbrev sent_text : {A : Type 0} → Type 0 → List (Sent A) → List ℕ

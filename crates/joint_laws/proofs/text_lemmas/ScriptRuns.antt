@@ -12,7 +12,7 @@ use Rattle.publish_core.proofs.Judged.{changes_are_judged}
 use Rattle.joint_laws.specs.PublishedReplay.{StopsBehind, script_of_text}
 use Rattle.joint_laws.specs.PublishedLaws.{SaysSomeRun, ScriptsSayRuns}
 use Rattle.exchange_engines.specs.PublishText.{IsRefused, IsScriptSound, IsAnswered, items_of_lines, script_of}
-use Rattle.joint_laws.proofs.text_lemmas.ScriptOrder.{AreOfScript, script_items}
+use Rattle.joint_laws.proofs.text_lemmas.ScriptSizes.{AreOfScript, script_items}
 
 -- behind others each of these calls is taken
 abbrev AllTaken : {A : Type 0} → Setup A → List Call → List Call → Type 0

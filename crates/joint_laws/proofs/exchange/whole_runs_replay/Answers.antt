@@ -1,4 +1,4 @@
-use Rattle.joint_laws.proofs.exchange_lemmas.PublishedLists.{whole_runs_replay}
+use Rattle.joint_laws.proofs.exchange_lemmas.OneFrame.{whole_runs_replay}
 use Rattle.joint_laws.proofs.exchange.whole_runs_replay.Goals as goal
 
 pub returns : goal.returns

@@ -1,10 +1,6 @@
-use Rattle.joint_laws.proofs.line_lemmas.BlocksSaid.{blocks_is_json}
-use Rattle.joint_laws.proofs.line_lemmas.CheckSaid.{check_is_json}
-use Rattle.joint_laws.proofs.line_lemmas.EntrySaid.{twice_is_json}
-use Rattle.joint_laws.proofs.line_lemmas.LossesSaid.{losses_is_json}
-use Rattle.joint_laws.proofs.line_lemmas.ReplaySaid.{replay_is_json}
-use Rattle.joint_laws.proofs.line_lemmas.ShowSaid.{show_is_json}
-use Rattle.joint_laws.proofs.line_lemmas.WatchSaid.{watch_is_json}
+use Rattle.joint_laws.proofs.line_lemmas.ShowSaid.{blocks_is_json, check_is_json, show_is_json, watch_is_json}
+use Rattle.joint_laws.proofs.line_lemmas.EntrySaid.{twice_is_json, replay_is_json}
+use Rattle.joint_laws.proofs.line_lemmas.LossGiven.{losses_is_json}
 use Rattle.joint_laws.proofs.lines.objects_are_json.Goals as goal
 
 pub returns-clause-show : goal.returns-clause-show

@@ -1,4 +1,4 @@
-use Rattle.joint_laws.proofs.object_lemmas.FaultLines.{capture_faults_are_json, faults_are_json, list_faults_are_json}
+use Rattle.joint_laws.proofs.object_lemmas.Lines.{capture_faults_are_json, faults_are_json, list_faults_are_json}
 use Rattle.joint_laws.proofs.objects.faults_are_json.Goals as goal
 
 pub returns-clause-frames : goal.returns-clause-frames

@@ -1,5 +1,4 @@
-use Rattle.joint_laws.proofs.text_lemmas.ListedBlocks.{listed_blocks_fit}
-use Rattle.joint_laws.proofs.text_lemmas.ListedTexts.{listed_blocks_are_apart}
+use Rattle.joint_laws.proofs.text_lemmas.ListedItems.{listed_blocks_fit, listed_blocks_are_apart}
 use Rattle.joint_laws.proofs.texts.listed_blocks_replay.Goals as goal
 
 pub returns-clause-apart : goal.returns-clause-apart

@@ -1,4 +1,4 @@
-use Rattle.joint_laws.proofs.text_lemmas.ScriptOrder.{scripts_in_order}
+use Rattle.joint_laws.proofs.text_lemmas.ScriptSizes.{scripts_in_order}
 use Rattle.joint_laws.proofs.texts.scripts_are_in_order.Goals as goal
 
 pub returns : goal.returns
