@@ -17,15 +17,12 @@ use Rattle.clap.specs.Walk.{Held, Waiting, Walk, arg_by_index, arg_by_long, arg_
 use Rattle.clap.specs.declared.error.kind.ErrorKind.TheVariants as kind
 use Rattle.words_core.specs.CommandLine.{Asked, IsValue, is_flag}
 use Rattle.words_core.specs.RequestLine.{Argument, AreTexts, SayAll, Says, Switch, argument_name, argument_text, file, given_as, is_set, named_once, switch, switch_name, switch_word, switches}
-use Rattle.words_core.proofs.ArgumentRows.{Hold, given_append, hold_more, how_read, puts, row_for}
-use Rattle.words_core.proofs.ArgumentWalks.{Each, Ended, Handled, Reads, Stands, Went, arguments_end, count_set, each_of, is_free}
+use Rattle.words_core.proofs.ArgumentRows.{Hold, given_append, hold_more, how_read, puts, row_for, Each, Ended, Handled, Reads, Stands, Went, arguments_end, count_set, each_of, is_free}
 use Rattle.words_core.proofs.Handled.{Offers, file_goes, is_of, switch_led}
 use Rattle.words_core.proofs.KeptRows.{first_none, then_none}
-use Rattle.words_core.proofs.LoneFlags.{help_flag, marked, nothing_behind, stray, turn_none}
-use Rattle.words_core.proofs.OptionRows.{default_other, default_set, has_at, read_flag, row_at, switch_flag}
+use Rattle.words_core.proofs.LoneFlags.{help_flag, marked, nothing_behind, stray, turn_none, IsEnd, Leaves, long_word, plain_leaf}
+use Rattle.words_core.proofs.Switches.{default_other, default_set, has_at, read_flag, row_at, switch_flag, AreAll, apart, first_has, is_common}
 use Rattle.words_core.proofs.OptionWalks.{Pending, between, dashes, held, meets_none, settled_to, state}
-use Rattle.words_core.proofs.PlainWords.{IsEnd, Leaves, long_word, plain_leaf}
-use Rattle.words_core.proofs.Switches.{AreAll, apart, first_has, is_common}
 
 -- ---- which argument is found
 

@@ -1,15 +1,23 @@
 -- The options as one list, in which each is found by its name: what holds all along the list holds of each.
-use Rattle.std.proofs.Common.{◌≡◌, ◌||◌, ◌∙◌, Bool, true, false, true≢false, List, ◌∷◌, Option, Some, None, option_map, unwrap_or, refl, sym, ap}
-use Rattle.std.specs.Prelude.{find}
+use Rattle.std.proofs.Common.{◌≡◌, ◌||◌, ◌∙◌, Bool, true, false, true≢false, List, ◌∷◌, Option, Some, None, option_map, unwrap_or, refl, sym, ap, ℕ, [], is_some, option_and_then, subst, inl, inr}
+use Rattle.std.specs.Prelude.{find, codes, if◌then◌else◌}
 use Rattle.std.specs.List.{list_all}
 use Rattle.std.specs.Str.{bytes_eq}
 use Rattle.std.proofs.lemmas.Slice.Eq.{bytes_eq-Decides}
 use Rattle.words_core.specs.declared.option_words.Options.{Options}
 use Rattle.words_core.specs.declared.option_words.Writing.{Writing}
 use Rattle.words_core.specs.declared.option_words.Writing.TheVariants.{Lines}
-use Rattle.clap.specs.Words.{Row, Text}
+use Rattle.clap.specs.Words.{Row, Text, Rule}
 use Rattle.clap.proofs.WalkLemmas.{both}
-use Rattle.words_core.specs.RequestLine.{Switch, capture, is_dated, is_object, is_on, is_option, is_set, json, options_given, options_in, replay_switches, switch_name, switch_word, time, writing_by}
+use Rattle.words_core.specs.RequestLine.{Switch, capture, is_dated, is_object, is_on, is_option, is_set, json, options_given, options_in, replay_switches, switch_name, switch_word, time, writing_by, read_rule}
+use Rattle.std.specs.Option.{option_map_or}
+use Rattle.std.proofs.lemmas.Bool.{cases_Bool}
+use Rattle.clap.specs.Simple.{filled, with_index}
+use Rattle.clap.specs.Walk.{has_row, reading_by, row_text, stronger, used, with_default, with_values, without}
+use Rattle.clap.specs.declared.builder.value_parser.Reading.{Reading}
+use Rattle.clap.specs.declared.parser.matches.ValueSource.{ValueSource}
+use Rattle.clap.specs.declared.parser.matches.ValueSource.TheVariants.{CommandLine, DefaultValue}
+use Rattle.words_core.specs.CommandLine.{option_named}
 
 pub both_false : (a b : Bool) → (a || b) ≡ false → (a ≡ false) × (b ≡ false)
 both_false false b e = (refl, e)
@@ -96,3 +104,107 @@ pub options_from : (rows : List Row) (options : Options) → ((o : Switch) → i
 options_from rows options same =
     (λ i. option_map (options_given (λ o. same o i)) (writing_by (same time i) (same json i)))
     ∙ ap (option_map (options_given (is_on options))) (writing_back options.writes) ∙ ap (λ (x : Options). Some x) (given_back options)
+
+-- ---- the rows of the options, beside the rows of other arguments
+
+abbrev pub once_if : Bool → ℕ
+once_if b = if b then 1 else 0
+
+abbrev pub row_at : Text → List Row → Option Row
+row_at id rows = find (λ r. bytes_eq r.id id) rows
+
+pub self_eq : (id : Text) → bytes_eq id id ≡ true
+self_eq id = (bytes_eq-Decides id id).1 refl
+
+-- ---- a use of one argument leaves the row of another
+
+module _ (id other : Text) (apart : bytes_eq id other ≡ false) where
+  same_apart : (r : Row) → bytes_eq r.id id ≡ true → bytes_eq r.id other ≡ false
+  same_apart r t = subst (λ (w : Text). bytes_eq w other ≡ false) (sym ((bytes_eq-Decides r.id id).0 t)) apart
+
+  with_other : (how : Reading) (source : ValueSource) (values : List Text) (rows : List Row) → row_at other (with_values id how source values rows) ≡ row_at other rows
+  with_other how source values [] = rw apart refl
+  with_other how source values (r ∷ rows) =
+      elim (cases_Bool (bytes_eq r.id id)) [ inl t ↦ let no = same_apart r t in rw (t, no) refl | inr t ↦ rw t (ap (λ (o : Option Row). if bytes_eq r.id other then Some r else o) (with_other how source values rows)) ]
+
+  without_other : (rows : List Row) → row_at other (without id rows) ≡ row_at other rows
+  without_other [] = refl
+  without_other (r ∷ rows) = elim (cases_Bool (bytes_eq r.id id)) [ inl t ↦ let no = same_apart r t in rw (t, no) refl | inr t ↦ rw t (ap (λ (o : Option Row). if bytes_eq r.id other then Some r else o) (without_other rows)) ]
+
+  pub set_other : (how : Reading) (source : ValueSource) (values : List Text) (rows : List Row) → row_at other (with_values id how source values (without id rows)) ≡ row_at other rows
+  set_other how source values rows = with_other how source values (without id rows) ∙ without_other rows
+
+  pub more_other : (how : Reading) (source : ValueSource) (values : List Text) (rows : List Row) → row_at other (with_values id how source values rows) ≡ row_at other rows
+  more_other = with_other
+
+-- ---- and gives its own
+
+abbrev pub new_row : Text → Reading → ValueSource → List Text → Row
+new_row id how source values = record { id = id; values = values; count = None; source = Some source; reading = how }
+
+no_row : (r : Row) (b : Bool) (o : Option Row) → b ≡ true → (if b then Some r else o) ≡ None → ⊥
+no_row r true o t e = cc
+no_row r false o t e = true≢false (sym t)
+
+without_none : (id : Text) (rows : List Row) → row_at id rows ≡ None → without id rows ≡ rows
+without_none id [] e = refl
+without_none id (r ∷ rows) e = elim (cases_Bool (bytes_eq r.id id)) [ inl t ↦ absurd (no_row r (bytes_eq r.id id) (row_at id rows) t e) | inr t ↦ rw t (ap (λ (l : List Row). r ∷ l) (without_none id rows (rw t at e))) ]
+
+with_own : (id : Text) (how : Reading) (source : ValueSource) (values : List Text) (rows : List Row) → row_at id rows ≡ None
+    → row_at id (with_values id how source values rows) ≡ Some (new_row id how source values)
+with_own id how source values [] e = let same = self_eq id in rw same refl
+with_own id how source values (r ∷ rows) e = elim (cases_Bool (bytes_eq r.id id)) [ inl t ↦ absurd (no_row r (bytes_eq r.id id) (row_at id rows) t e) | inr t ↦ rw t (rw t (with_own id how source values rows (rw t at e))) ]
+
+pub set_own : (id : Text) (how : Reading) (source : ValueSource) (values : List Text) (rows : List Row) → row_at id rows ≡ None
+    → row_at id (with_values id how source values (without id rows)) ≡ Some (new_row id how source values)
+set_own id how source values rows e = ap (λ (l : List Row). row_at id (with_values id how source values l)) (without_none id rows e) ∙ with_own id how source values rows e
+
+pub strongest : (s : Option ValueSource) → stronger s CommandLine ≡ CommandLine
+strongest (Some CommandLine) = refl
+strongest _ = refl
+
+pub has_at : (id : Text) (rows : List Row) → has_row id rows ≡ is_some (row_at id rows)
+has_at id [] = refl
+has_at id (r ∷ rows) = elim (cases_Bool (bytes_eq r.id id)) [ inl t ↦ rw t refl | inr t ↦ rw t (has_at id rows) ]
+
+-- ---- the options
+
+-- an option as it is built
+abbrev pub switch_flag : Switch → Rule
+switch_flag o = with_index 1 (filled (option_named (switch_name o)))
+
+-- and that of the name of a file
+abbrev pub read_flag : Rule
+read_flag = with_index 1 (filled read_rule)
+
+abbrev pub use_switch : Switch → List Row → List Row
+use_switch o rows = used (switch_flag o) [] rows
+
+-- ---- the rows of defaults at the end
+
+-- the default of an option says that it was not given
+pub default_other : (o : Switch) (id : Text) → bytes_eq (switch_name o) id ≡ false → (rows : List Row) → row_at id (with_default rows (switch_flag o)) ≡ row_at id rows
+default_other o id apart rows = elim (cases_Bool (has_row (switch_name o) rows)) [ inl h ↦ rw h refl | inr h ↦ rw h (more_other (switch_name o) id apart _ DefaultValue _ rows) ]
+
+is_none : (r : Option Row) → is_some r ≡ false → r ≡ None
+is_none None e = refl
+is_none (Some r) e = absurd (true≢false e)
+
+-- an option is set by its row
+abbrev pub set_by : Option Row → Bool
+set_by r = option_map_or (bytes_eq (codes "true")) (option_and_then row_text r) false
+
+default_own : (o : Switch) (rows : List Row) → is_set (switch_name o) (with_default rows (switch_flag o)) ≡ is_set (switch_name o) rows
+default_own o rows = go (has_row (switch_name o) rows) refl
+  where
+    go : (b : Bool) → has_row (switch_name o) rows ≡ b → is_set (switch_name o) (with_default rows (switch_flag o)) ≡ is_set (switch_name o) rows
+    go true h = rw h refl
+    go false h =
+        let none = is_none (row_at (switch_name o) rows) (sym (has_at (switch_name o) rows) ∙ h) in
+        rw h (ap set_by (with_own (switch_name o) (reading_by (switch_flag o)) DefaultValue (codes "false" ∷ []) rows none) ∙ sym (ap set_by none))
+
+pub default_set : (o s : Switch) (rows : List Row) → is_set (switch_name o) (with_default rows (switch_flag s)) ≡ is_set (switch_name o) rows
+default_set o s rows = elim (cases_Bool (bytes_eq (switch_name s) (switch_name o))) [
+  | inl t ↦ subst (λ (x : Switch). is_set (switch_name x) (with_default rows (switch_flag s)) ≡ is_set (switch_name x) rows) (one_name s o t) (default_own s rows)
+  | inr t ↦ ap set_by (default_other s (switch_name o) t rows)
+]

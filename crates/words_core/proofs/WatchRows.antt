@@ -25,8 +25,7 @@ use Rattle.block_core.specs.Period.{IsPeriod}
 use Rattle.words_core.specs.RequestLine.{Switch, offered, switch_name, switches}
 use Rattle.words_core.specs.CommandLine.{Meaning, id_rule, number_said, period_rule, watch, watch_asked, watch_shape}
 use Rattle.words_core.proofs.KeptRows.{EachKeeps, Keeps, Kept, end_keeps, found_keeps, given_value, leaf, level_checked, more_keeps, no_default, no_defaults, set_keeps, single_keeps, then_none, wanted}
-use Rattle.words_core.proofs.OptionRows.{read_flag, self_eq, switch_flag}
-use Rattle.words_core.proofs.Switches.{not_named}
+use Rattle.words_core.proofs.Switches.{read_flag, self_eq, switch_flag, not_named}
 
 -- ---- what a text is read as
 

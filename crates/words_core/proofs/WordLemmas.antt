@@ -22,7 +22,7 @@ use Rattle.words_core.specs.declared.words.WordsError.{WordsError}
 use Rattle.words_core.specs.declared.words.WordsError.TheVariants as refused
 use Rattle.words_core.proofs.KeptRows.{EachIs, first_none, found_is, leaf, level_checked, texts_in, then_none}
 use Rattle.words_core.proofs.WatchRows.{watch_says}
-use Rattle.words_core.proofs.PeriodWords.{periods_in_range}
+use Rattle.words_core.proofs.Digits.{periods_in_range}
 use Rattle.words_core.specs.CommandLine.{AnswersTask, AnswersUnsaid, Asked, HasPeriod, IsNoMistake, IsUnsaid, Meaning, Unsaid, asked_by, blocks_in, check, first_bad_block, first_bad_period, import, is_plain, list_blocks, losses, losses_shape, names_blocks, no_block, no_period, periods_in, plain, publish, replay, replay_shape, rewrite, show, task_asked, watch, watch_shape}
 use Rattle.words_core.specs.RequestLine.{AnswersAsked, AnswersRequest, AsksWith, MayRefuseRequest, MayRefuseWords, RefusesUnsaid, Wish, contradict, file_of_words, meaning_names_blocks, offered, options_in, request_asked, request_faults, request_line, request_of_words, takes_request, takes_words, task_of_words, with_these, word_faults}
 use Rattle.words_core.specs.computed.PrivateCalls.{MayAnswer}
@@ -117,10 +117,7 @@ losses_gives words f =
 all_give : EachIs AsksForSomething (built request_line).subs
 all_give = (
   plain_gives true show refl,
-  (
-    plain_gives true check refl,
-    (plain_gives false rewrite refl, (plain_gives true list_blocks refl, (replay_gives, (plain_gives false publish refl, (watch_gives, (losses_gives, (plain_gives false import refl, tt))))))),
-  ),
+  (plain_gives true check refl, (plain_gives false rewrite refl, (plain_gives true list_blocks refl, (replay_gives, (plain_gives false publish refl, (watch_gives, (losses_gives, (plain_gives false import refl, tt)))))))),
 )
 
 -- words without a fault ask for something

@@ -4,7 +4,7 @@ use Rattle.std.specs.Str.Parse.{ParsesUnsigned}
 use Rattle.std.specs.declared.num.ParseIntError.{ParseIntError}
 use Rattle.clap.specs.Words.{Text}
 use Rattle.words_core.specs.CommandLine.{period_number}
-use Rattle.words_core.proofs.PeriodWords.{not_parsed, parsed_in, parsed_out}
+use Rattle.words_core.proofs.Digits.{not_parsed, parsed_in, parsed_out}
 use Rattle.words_core.proofs.period_words.period_number.Goals as goal
 
 of_parsed : (text : Text) (n : ℕ) (o : Option ℕ) → ParsesUnsigned {E = ParseIntError} 32 10 text (Ok n) → IfSome o (λ k. (k ≡ n) × (2 ≤ k) × (k ≤ 65536)) → (o ≡ None → 2 ≤ n → n ≤ 65536 → ⊥) → o ≡ period_number text

@@ -2,7 +2,7 @@ use Rattle.std.proofs.Common.{◌∙◌, Option, ap, subst, sym}
 use Rattle.clap.specs.Words.{Text}
 use Rattle.words_core.specs.CommandLine.{period_of_parts}
 use Rattle.words_core.specs.computed.PrivateCalls.{AnswersPeriod}
-use Rattle.words_core.proofs.PeriodWords.{split_is, texts_of}
+use Rattle.words_core.proofs.Digits.{split_is, texts_of}
 use Rattle.words_core.proofs.period_words.read_period.Goals as goal
 
 pub returns-in-None : goal.returns-in-None

@@ -7,8 +7,7 @@ use Rattle.clap.specs.Walk.{texts}
 use Rattle.clap.proofs.WalkLemmas.{both}
 use Rattle.words_core.specs.RequestLine.{request_line, request_of_words}
 use Rattle.words_core.proofs.WordLemmas.{answered_period, answered_plainly, request_granted, unsaid_refused, with_file}
-use Rattle.words_core.proofs.AskingWords.{words_ask_with}
-use Rattle.words_core.proofs.AskedWords.{asked_with}
+use Rattle.words_core.proofs.AskingWords.{words_ask_with, asked_with}
 use Rattle.words_core.proofs.words.read_request.Goals as goal
 
 pub returns-clause-found : goal.returns-clause-found
