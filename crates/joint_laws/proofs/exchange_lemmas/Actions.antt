@@ -57,16 +57,7 @@ action : {B : Type 0} (blocks : List (Block B)) (events : List (Event B)) (readi
 action {B} blocks events readings b block i es number sequence t members apart at are w has =
     let told = (acts_are_told blocks readings i es b number sequence t members apart (entries_read blocks events readings i es are w)).0 has in
     let same : told.block ≡ block = same_Some told.block block (sym told.at ∙ at) in
-    record {
-      acts = subst (λ (y : Block B). Acts (trace_of_block y readings) i) same told.acts;
-      reading = told.event;
-      at = told.read;
-      frame = told.frame;
-      goose = told.goose;
-      number_is = cc;
-      t_is = cc;
-      members_are = cc;
-    }
+    record { acts = subst (λ (y : Block B). Acts (trace_of_block y readings) i) same told.acts; reading = told.event; at = told.read; frame = told.frame; goose = told.goose; number_is = cc; t_is = cc; members_are = cc }
 
 in_epoch : {B : Type 0} (block : Block B) (readings : List EventRead) (i s : ℕ) (acts : Acts (trace_of_block block readings) i) → IsLastStart (trace_of_block block readings) i s → IsIn (trace_of_block block readings) s i acts.facts
 in_epoch block readings i s acts epoch = record { good = acts.good; epoch = epoch }

@@ -24,31 +24,10 @@ use Rattle.joint_laws.specs.PublishedList.{Sent}
 -- the same APDU, whatever memory it stood in
 
 abbrev pub plain : {A : Type 0} → GoosePdu A → GoosePdu (Unit {0})
-plain p = record {
-  gocb_ref = p.gocb_ref;
-  live = p.live;
-  dat_set = p.dat_set;
-  go_id = p.go_id;
-  t = p.t;
-  st_num = p.st_num;
-  sq_num = p.sq_num;
-  simulation = p.simulation;
-  conf_rev = p.conf_rev;
-  nds_com = p.nds_com;
-  members = p.members;
-}
+plain p = record { gocb_ref = p.gocb_ref; live = p.live; dat_set = p.dat_set; go_id = p.go_id; t = p.t; st_num = p.st_num; sq_num = p.sq_num; simulation = p.simulation; conf_rev = p.conf_rev; nds_com = p.nds_com; members = p.members }
 
 abbrev pub plain_frame : {A : Type 0} → Frame A → GoosePdu A → Frame (Unit {0})
-plain_frame f q = record {
-  destination = f.destination;
-  source = f.source;
-  tag = f.tag;
-  app_id = f.app_id;
-  reserved1 = f.reserved1;
-  reserved2 = f.reserved2;
-  apdu = apdus.Goose (plain q);
-  trailer = f.trailer;
-}
+plain_frame f q = record { destination = f.destination; source = f.source; tag = f.tag; app_id = f.app_id; reserved1 = f.reserved1; reserved2 = f.reserved2; apdu = apdus.Goose (plain q); trailer = f.trailer }
 
 pub plain_spelled : {A : Type 0} (f : Frame A) (q : GoosePdu A) (o : List ℕ) → f.apdu ≡ apdus.Goose q → SpellsFrame f o → SpellsFrame (plain_frame f q) o
 plain_spelled {A} f q o is s = record {
@@ -115,8 +94,7 @@ frame_facts block mode taken x f e = go (is_of x block) (reason_of (is_other_kin
   where
     go : (o : Bool) (r : Option Reason) → (if o then facts_unless_refused r (facts_of_frame x) else None) ≡ Some f → f ≡ facts_of_frame x
     go true None is = sym (same_Some (facts_of_frame x) f is)
-    go true (Some r) is = absurd (none-some f is)
-    go false r is = absurd (none-some f is)
+    go _ _ is = absurd (none-some f is)
 
 content_good : {A : Type 0} (block : Block A) (mode taken : Bool) (k : Content) (f : Facts) → facts_of block mode taken k ≡ Some f → (x : FrameRead) × (k ≡ OfGoose x)
 content_good block mode taken (OfGoose x) f e = (x, refl)

@@ -284,8 +284,7 @@ said_given : {A : Type 0} (blocks : List (Block A)) (es : List (Event A)) (e : E
     → AllByRecursion (IsGivenEntry (length blocks)) entries
 said_given blocks es e entries given (readings, read, at) =
     let n = length blocks in
-    let last = last_read es e readings at.event read at.at in
-    let content = given_content e.kind at.event.content given last.content in
+    let content = given_content e.kind at.event.content given (last_read es e readings at.event read at.at).content in
     let expired = each_given n _ says.Expired 0 blocks at.expired (λ i h. h) (omega arith) at.are_expired in
     let switched = each_given n _ says.Switched 0 blocks at.switched (λ i h. h) (omega arith) at.are_switched in
     let said = content_given blocks readings (length es) at.event.content at.said content at.are_said in

@@ -72,7 +72,7 @@ use Rattle.joint_laws.proofs.line_lemmas.Told.{say_event}
 use Rattle.std.proofs.lemmas.Option.{none-some, same_Some}
 use Rattle.list_core.specs.declared.event.Event.{Event}
 use Rattle.list_core.specs.Items.{Numbered}
-use Rattle.list_core.specs.Lines.{Stop, finished, unfinished, faulty}
+use Rattle.list_core.specs.Lines.{Stop, finished}
 use Rattle.object_core.specs.declared.counted.Form.{Form}
 use Rattle.engine_core.specs.declared.style.Style.TheVariants.{Lines}
 use Rattle.loss_engine.specs.TimeBack.{is_far_below}
@@ -571,8 +571,7 @@ closing_said : {F : Type 0} (c : Counted) (stop : Stop F) (n : â„•) (k : Kept) â
 closing_said c finished n k small =
     lines_said c n (closing_by (forms.Object c) k) (closing_by forms.Text k)
     (both_said (silences_by (forms.Object c) k) (totals_by (forms.Object c) k) (silences_by forms.Text k) (totals_by forms.Text k) (silences_said c k.moment k.tracked small.moment small.each) (totals_said c k.moment k.tracked small.each))
-closing_said c unfinished n k small = tt
-closing_said c (faulty f) n k small = tt
+closing_said _ _ _ _ _ = tt
 
 -- ---- the input
 

@@ -330,12 +330,11 @@ watch_says period id texts wide are c before e objects lines given is also =
     let seen = (answers_are_one period (counts_of id before ++ counts (samples_of id e.1.kind))).1 (w.earlier ++ w.answers) (v.earlier ++ v.answers) w.are_seen v.are_seen in
     let same : w.answers ≡ v.answers = end_same w.earlier w.answers v.earlier v.answers (w.one_each ∙ sym v.one_each) seen in
     let found = λ (x : List ℕ × Bool). x.1 in
-    let as_object = telling (forms.Object c) e.0 e.1.moment in
     let as_text = telling forms.Text e.0 e.1.moment in (
       say_same _ _ _ _ (watch_written (forms.Object c) period id texts before e objects w is)
           (watch_written forms.Text period id texts before e lines v also ∙ sym (ap (λ (answers : List Seen). (watched as_text id e.1.kind answers).0) same))
           (watched_says c e.0 e.1.moment id e.1.kind w.answers given.number given.moment given.kind (answers_small period _ w.earlier w.answers wide w.are_seen)),
-      ap found (sym is ∙ watch_told (forms.Object c) period id texts before e w) ∙ kind_found as_object as_text id e.1.kind w.answers
+      ap found (sym is ∙ watch_told (forms.Object c) period id texts before e w) ∙ kind_found (telling (forms.Object c) e.0 e.1.moment) as_text id e.1.kind w.answers
           ∙ ap (λ (answers : List Seen). (watched as_text id e.1.kind answers).1) same
           ∙ ap found (sym (watch_told forms.Text period id texts before e v) ∙ also),
     )

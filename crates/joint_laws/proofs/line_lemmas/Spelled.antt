@@ -156,10 +156,8 @@ frame_held o f h s =
     let h0 = subst AreOctets s.parts h in
     let h1 = back_octets f.destination _ h0 in
     let h2 = back_octets f.source _ h1 in
-    let h3 = back_octets s.tag _ h2 in
-    let h4 = back_octets s.ether_type _ h3 in
-    let h5 = back_octets s.app_id _ h4 in
-    let h6 = back_octets s.size _ h5 in
+    let h4 = back_octets s.ether_type _ (back_octets s.tag _ h2) in
+    let h6 = back_octets s.size _ (back_octets s.app_id _ h4) in
     let h7 = back_octets s.reserved1 _ h6 in
     let h8 = back_octets s.reserved2 _ h7 in
     record {

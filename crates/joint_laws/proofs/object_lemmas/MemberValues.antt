@@ -98,10 +98,9 @@ simple_says (integer z) c text small spelled is = record {
   says = refl;
 }
 simple_says (unsigned n) c text small spelled is =
-    let range = simple_spellable (unsigned n) c small spelled in
     record {
       json = json.object (json.member (codes "uint") (json.number (decimal n)) json.no_members);
-      is_text = subst (IsTextOf 2 _) (sym is) (one_is 1 (codes "uint") _ _ refl (decimal_is 1 n (omega (arith, ints, range.1))));
+      is_text = subst (IsTextOf 2 _) (sym is) (one_is 1 (codes "uint") _ _ refl (decimal_is 1 n (omega (arith, ints, (simple_spellable (unsigned n) c small spelled).1))));
       says = refl;
     }
 simple_says (floating os) c text small spelled is =
@@ -117,9 +116,7 @@ simple_says (floating os) c text small spelled is =
 simple_says (octets os) c text small spelled is = hexadecimal_says (codes "oct") os text refl (subst AreOctets spelled small) is (simple_text (octets os)) refl
 simple_says (binary_time os) c text small spelled is = hexadecimal_says (codes "btime") os text refl (subst AreOctets spelled.0 small) is (simple_text (binary_time os)) refl
 simple_says (mms_text os) c text small spelled is = hexadecimal_says (codes "mms") os text refl (subst AreOctets spelled small) is (simple_text (mms_text os)) refl
-simple_says (utc t) c text small spelled is =
-    let time = simple_spellable (utc t) c small spelled in
-    record { json = time_json t; is_text = subst (IsTextOf 2 _) (sym is) (time_is t time.2); says = refl }
+simple_says (utc t) c text small spelled is = record { json = time_json t; is_text = subst (IsTextOf 2 _) (sym is) (time_is t (simple_spellable (utc t) c small spelled).2); says = refl }
 simple_says (visible os) c text small spelled is = record { json = json.string os; is_text = subst (IsTextOf 2 _) (sym is) (visible_is 2 os spelled.1); says = refl }
 
 -- an array or a structure, by its members
@@ -159,11 +156,7 @@ mutual
       let all : AreOctets (first ++ rest) = subst AreOctets parts small in
       let one = member_says d L first text (front_octets first rest all) spelled is.0 in
       let others = items_say ds L rest texts (back_octets first rest all) more is.1 in
-      record {
-        json = json.item one.json others.json;
-        are_texts = (one.is_text, others.are_texts);
-        says = ap (λ (l : List ℕ). l ∷ items_said others.json) one.says ∙ ap (λ (l : List (List ℕ)). value_text d ∷ l) others.says;
-      }
+      record { json = json.item one.json others.json; are_texts = (one.is_text, others.are_texts); says = ap (λ (l : List ℕ). l ∷ items_said others.json) one.says ∙ ap (λ (l : List (List ℕ)). value_text d ∷ l) others.says }
   items_say _ L _ _ _ _ is = absurd is
 
 -- the members of a data set are one value, which says what their words say

@@ -60,8 +60,7 @@ unmapped f (Some x) e = absurd (none-some x (sym e))
 no_octets_in : (w : List ℕ) (k : ℕ) (r : Result (List ℕ) FromHexError) → k < length w → is_hex_digit (get_or w k 0) ≡ false → decode_sized w 2 ≡ r → decoded r ≡ None
 no_octets_in w k (Err e) within other is = refl
 no_octets_in w k (Ok octets) within other is =
-    let size = decode_sized-ok w 2 octets is in
-    let digits = (decode_of-ok w octets (sym (decode_sized-twice w 2 size) ∙ is)).1 in
+    let digits = (decode_of-ok w octets (sym (decode_sized-twice w 2 (decode_sized-ok w 2 octets is)) ∙ is)).1 in
     let digit : is_hex_digit (get_or w k 0) ≡ true = All-get_or (λ x. is_hex_digit x ≡ true) w k 0 within digits in
     absurd (false≢true (sym other ∙ digit))
 

@@ -6,7 +6,7 @@ use Rattle.std.specs.Io.KnownBytes.{Appends}
 use Rattle.list_core.specs.declared.event.Event.{Event}
 use Rattle.list_core.specs.Device.{AppendsPrefix}
 use Rattle.list_core.specs.Items.{Numbered, put_items}
-use Rattle.list_core.specs.Lines.{Stop, finished, unfinished, faulty}
+use Rattle.list_core.specs.Lines.{Stop, finished, faulty}
 use Rattle.list_core.proofs.Devices.{AppendsPrefix-more}
 use Rattle.capture_core.specs.declared.capture_fault.CaptureFault.{CaptureFault}
 use Rattle.capture_core.specs.Captured.{captured_events}
@@ -62,8 +62,7 @@ module _ {A : Type 0} (blocks : List (Block A)) (said : Says A) (apart : AreApar
 
   last_is : (items : List (ℕ × Event A)) (stop : Stop CaptureFault) (last : List ℕ × Bool) → StopsWith (replay_lines blocks said) items stop last → last ≡ (fault_lines stop, false)
   last_is items finished last (lines, none, is) = is ∙ ap (λ (l : List ItemText). (joined_texts l, has_finding l)) none
-  last_is items unfinished last is = is
-  last_is items (faulty f) last is = is
+  last_is items _ last is = is
 
   -- a whole text of a capture is the lines of its entries and of its fault, and stops as the capture does
   record IsOfCapture (l : Numbered (Event A) CaptureFault) (entries : List (List (Entry A))) (text : List ℕ) (found : Bool) (stop : Stop CaptureFault) : Type 0 where
@@ -79,11 +78,7 @@ module _ {A : Type 0} (blocks : List (Block A)) (said : Says A) (apart : AreApar
       let at : (i : ℕ) (x : List (Entry A)) → slice_get entries i ≡ Some x → AreEntriesAt blocks (events_of items) (0 + i) x =
       λ i x here. let none : i ≡ 0 + i = omega arith in subst (λ (j : ℕ). AreEntriesAt blocks (events_of items) j x) none (have.each i x here) in
       let lines = texts_are [] items texts (are_next (replay_lines blocks said) [] items texts allowed.one_each allowed.each) entries (have.sizes ∙ length-map items (λ (e : ℕ × Event A). e.1)) at in
-      record {
-        writes = is ∙ ap₂ (λ (a b : List ℕ). a ++ b) lines.0 (ap (λ (l : List ℕ × Bool). l.0) is_last);
-        none_found = sym finds ∙ ap₂ (λ (a b : Bool). a || b) lines.1 (ap (λ (l : List ℕ × Bool). l.1) is_last);
-        stops = refl;
-      }
+      record { writes = is ∙ ap₂ (λ (a b : List ℕ). a ++ b) lines.0 (ap (λ (l : List ℕ × Bool). l.0) is_last); none_found = sym finds ∙ ap₂ (λ (a b : Bool). a || b) lines.1 (ap (λ (l : List ℕ × Bool). l.1) is_last); stops = refl }
 
   whole_is : (l : Numbered (Event A) CaptureFault) (entries : List (List (Entry A))) → AreEntries blocks (events_of l.items) entries → (text : List ℕ) (found : Bool) (stop : Stop CaptureFault) →
       IsWholeText capture_faults.refused (replay_lines blocks said) l text found stop → IsOfCapture l entries text found stop

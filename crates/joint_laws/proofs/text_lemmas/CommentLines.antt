@@ -40,10 +40,7 @@ abbrev IsShort : ℕ → List ℕ → Type 0
 IsShort n text = (printed text ≡ true) × (length text ≤ n)
 
 both_short : (n m : ℕ) (a b : List ℕ) → IsShort n a → IsShort m b → IsShort (n + m) (a ++ b)
-both_short n m a b p q =
-    let l = p.1 in
-    let r = q.1 in
-    (list_all-append (λ x. nat_le 32 x) a b ∙ and_from (printed a) (printed b) p.0 q.0, omega (arith, l, r, length-append a b))
+both_short n m a b p q = (list_all-append (λ x. nat_le 32 x) a b ∙ and_from (printed a) (printed b) p.0 q.0, omega (arith, p.1, q.1, length-append a b))
 
 glyph_printed : (d : ℕ) → nat_le 32 (digit_glyph false d) ≡ true
 glyph_printed d = cond_both (nat_lt d 10) _ _ (λ (x : ℕ). nat_le 32 x ≡ true) (λ e. grind (arith, nat_tests)) (λ e. grind (arith, nat_tests))
@@ -104,8 +101,7 @@ says_nothing {A} says =
 
 pub comment_listed : {A : Type 0} (n : ℕ) (text : List ℕ) → IsComment text → n < 1000000 → listing (event_rules {A = A}) (After Microseconds) End n text ≡ listing event_rules (After Microseconds) End (n + 1) []
 comment_listed {A} n text c room =
-    let size = c.short.1 in
     ap (listing (event_rules {A = A}) (After Microseconds) End n) c.line ∙
-    ap (items_in (event_rules {A = A}) (After Microseconds) n) (reading-line End n (35 ∷ 32 ∷ c.says) [] (no_line_end (35 ∷ 32 ∷ c.says) c.short.0) room (omega (arith, size))) ∙
+    ap (items_in (event_rules {A = A}) (After Microseconds) n) (reading-line End n (35 ∷ 32 ∷ c.says) [] (no_line_end (35 ∷ 32 ∷ c.says) c.short.0) room (omega (arith, c.short.1))) ∙
     items_in-line (event_rules {A = A}) (After Microseconds) n (without_cr (35 ∷ 32 ∷ c.says)) (reading End (n + 1) []) ∙
     ap (λ said. put_said n (meant Microseconds said) (λ t. listing (event_rules {A = A}) t End (n + 1) [])) (says_nothing {A = A} c.says)

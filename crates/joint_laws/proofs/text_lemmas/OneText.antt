@@ -9,7 +9,7 @@ use Rattle.list_core.specs.declared.line_rules.ItemFault.{ItemFault}
 use Rattle.list_core.specs.declared.line_rules.ItemFault.TheVariants as fault
 use Rattle.list_core.specs.declared.list_fault.ListCause.{ListCause}
 use Rattle.list_core.specs.Items.{Listing, listing}
-use Rattle.list_core.specs.Lines.{Stop, faulty, finished, unfinished}
+use Rattle.list_core.specs.Lines.{Stop, faulty}
 use Rattle.publish_core.specs.declared.fault.PublishFault.{PublishFault}
 use Rattle.publish_core.specs.Frames.{Setup, change}
 use Rattle.publish_core.specs.Refusal.{next_state}
@@ -44,9 +44,8 @@ use Rattle.joint_laws.proofs.text_lemmas.ScriptSizes.{scripts_in_order}
 
 module _ {X C : Type 0} (t u : Text X C) (lasts : (f : ItemFault C) → t.last f ≡ u.last f) where
   stop_same : (stop : Stop (ItemFault C)) → told_stop t stop ≡ told_stop u stop
-  stop_same finished = refl
-  stop_same unfinished = refl
   stop_same (faulty f) = ap (λ (text : List ℕ). record { text = text; found = false; stop = faulty f }) (lasts f)
+  stop_same _ = refl
 
   put_same : (n : ℕ) (r : Result (List ℕ × Bool) C) (a b : Account C) → a ≡ b → put_step t n r a ≡ put_step u n r b
   put_same n (Ok s) a b same = ap (put_step t n (Ok s)) same

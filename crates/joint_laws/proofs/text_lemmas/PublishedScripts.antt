@@ -73,14 +73,7 @@ module _ {A : Type 0} (B : Type 0) (p : Setup A) (t : Text (ScriptItem A) Script
   -- the steps that are left write nothing, and the calls stand behind them
   steps_left : (todo done : List Step) (calls : List Call) (before es : List (ℕ × ScriptItem A)) (script : Listing (ScriptItem A) ScriptCause) → length p.table ≤ 16 → done ++ todo ≡ p.table → before ++ es ≡ script.items → items_of_lines before ≡ script_of (setup p.control done p.first) [] → items_of_lines es ≡ map item.Step todo ++ map item_of_call calls → CallsLeft p t calls script (told_after t before es script.stop)
   unfolding told_after
-  steps_left [] done calls before es script few table parts stands left = (
-    before,
-    es,
-    parts,
-    stands ∙ ap (λ (steps : List Step). script_of (setup p.control steps p.first) []) (sym (append-nil done) ∙ table),
-    left,
-    refl,
-  )
+  steps_left [] done calls before es script few table parts stands left = (before, es, parts, stands ∙ ap (λ (steps : List Step). script_of (setup p.control steps p.first) []) (sym (append-nil done) ∙ table), left, refl)
   steps_left (s ∷ todo) done calls before [] script few table parts stands left = absurd cc
   steps_left (s ∷ todo) done calls before (e ∷ es) script few table parts stands left =
       let w = steps_left todo (done ++ s ∷ []) calls (before ++ e ∷ []) es script few (append_assoc done (s ∷ []) todo ∙ table) (append_assoc before (e ∷ []) es ∙ parts) next others in

@@ -56,10 +56,7 @@ entries_written {A} blocks t stop apart is before (e ∷ items) (x ∷ rest) siz
 entries_written blocks t stop apart is before _ _ size each = absurd (omega arith)
 
 pub replays_write_entries : {A : Type 0} → ReplaysWriteEntries A
-replays_write_entries {A} blocks entries t l apart are is = record {
-  writes = ap₂ (λ (a : List ℕ) (o : Account ListCause). a ++ o.text) is.first written;
-  stops = ap (λ (o : Account ListCause). o.stop) written;
-}
+replays_write_entries {A} blocks entries t l apart are is = record { writes = ap₂ (λ (a : List ℕ) (o : Account ListCause). a ++ o.text) is.first written; stops = ap (λ (o : Account ListCause). o.stop) written }
   where
     at : (i : ℕ) (x : List (Entry A)) → slice_get entries i ≡ Some x → AreEntriesAt blocks (events_of l.items) (0 + i) x
     at i x here = let none : i ≡ 0 + i = omega arith in subst (λ (j : ℕ). AreEntriesAt blocks (events_of l.items) j x) none (are.each i x here)

@@ -168,9 +168,7 @@ SaysSizes A o = IfSome o (λ l. ControlIsHeld {A = A} (block_of_line l) × (l.nu
 line_sizes : (A : Type 0) (a b : Option (List ℕ)) (c : Option (Option VlanTag)) (d : Option ℕ) (f g h : Option (List ℕ)) (n : Option ControlEnd) →
     Sized 6 a → Sized 6 b → HasTag c → IsWord d → HaveSizes n → SaysSizes A (control_with a b c d f g h n)
 line_sizes A (Some a) (Some b) (Some c) (Some d) (Some f) (Some g) (Some h) (Some n) p q r s k =
-    let rev = k.0 in
-    let count = k.1 in
-    (record { to = p.0; from = q.0; to_octets = p.1; from_octets = q.1; tag = r; app_id = s; conf_rev = omega (arith, rev); entries = omega (arith, count) }, k.2)
+    (record { to = p.0; from = q.0; to_octets = p.1; from_octets = q.1; tag = r; app_id = s; conf_rev = omega (arith, k.0); entries = omega (arith, k.1) }, k.2)
 line_sizes _ _ _ _ _ _ _ _ _ _ _ _ _ _ = tt
 
 pub control_sizes : (A : Type 0) (fields : List (List ℕ)) → SaysSizes A (control_of fields)
@@ -437,12 +435,7 @@ record IsGood {A : Type 0} (before : List (ScriptItem A)) (l : Listing (ScriptIt
   settled_so : SettlesAll before state (before ++ items_of_lines l.items)
 
 nothing_more : {A : Type 0} (before : List (ScriptItem A)) (s : ScriptLines) (stop : Stop (ItemFault ScriptCause)) → SettlesAll before s before → IsGood before (stops stop)
-nothing_more before s stop h = record {
-  stand = λ xs more e is. absurd (none_left xs more e is);
-  keep = tt;
-  state = s;
-  settled_so = subst (λ (b : List (ScriptItem _)). SettlesAll before s b) (sym (append-nil before)) h;
-}
+nothing_more before s stop h = record { stand = λ xs more e is. absurd (none_left xs more e is); keep = tt; state = s; settled_so = subst (λ (b : List (ScriptItem _)). SettlesAll before s b) (sym (append-nil before)) h }
 
 put_good : {A : Type 0} (before : List (ScriptItem A)) (s : ScriptLines) (n : ℕ) (r : Result (Option (ScriptItem A) × ScriptLines) ScriptCause) (rest : ScriptLines → Listing (ScriptItem A) ScriptCause) →
     SettlesAll before s before → ((t : ScriptLines) (items : List (ScriptItem A)) → SettlesAll before t items → IsGood items (rest t)) → GoesOn before r → IsGood before (put_said n r rest)
@@ -530,11 +523,7 @@ set_up_as {A} p q calls more e w = record { few = subst (λ (steps : List Step).
 
     by_calls : (more ≡ []) ⊎ IsScriptSound q → (calls ≡ []) ⊎ IsScriptSound p
     by_calls (inl none) = inl (no_calls A p.table q.table calls (same_tail _ _ _ _ e ∙ ap (λ (l : List Call). map item.Step q.table ++ map item_of_call l) none))
-    by_calls (inr sound) = inr (record {
-      steps = subst AreSteps (sym table) sound.steps;
-      some = subst (λ (n : ℕ). 0 < n) (sym first) sound.some;
-      most = subst (λ (n : ℕ). n ≤ 4294967295) (sym first) sound.most;
-    })
+    by_calls (inr sound) = inr (record { steps = subst AreSteps (sym table) sound.steps; some = subst (λ (n : ℕ). 0 < n) (sym first) sound.some; most = subst (λ (n : ℕ). n ≤ 4294967295) (sym first) sound.most })
 
 -- a script sets up the publisher that it calls
 pub script_set_up : {A : Type 0} (p : Setup A) (calls : List Call) (z : InputEnd) (text : List ℕ) → items_of_lines (script_of_text z text).items ≡ script_of p calls → IsSetUp p calls

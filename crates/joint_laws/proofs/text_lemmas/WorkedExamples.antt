@@ -126,12 +126,7 @@ pub record IsPolledOnce (left : List Call) : Type 0 where
 pub is_polled_once : IsPolledOnce (call 7000 (Changed no_value) ∷ call 9000 Polled ∷ [])
 unfolding reading items_said decode_pairs digits told_after members_at members_with
 is_polled_once = record {
-  says = record {
-    calls_left = call 7000 (Changed no_value) ∷ call 9000 Polled ∷ [];
-    items = refl;
-    accepted = λ i handed_in at. absurd (polled_alone i handed_in at);
-    stops = (publish.EntriesDiffer, λ same. absurd (none_is_one same));
-  };
+  says = record { calls_left = call 7000 (Changed no_value) ∷ call 9000 Polled ∷ []; items = refl; accepted = λ i handed_in at. absurd (polled_alone i handed_in at); stops = (publish.EntriesDiffer, λ same. absurd (none_is_one same)) };
   ends = record { line = 5; why = publish.EntriesDiffer; there = refl; refused = λ same. absurd (none_is_one same); stops = refl };
 }
   where

@@ -41,8 +41,7 @@ one_line a b none h = elim h.starts_line [
   | inr later ↦
       let earlier : List ℕ = later.0 in
       let same : a ++ 10 ∷ [] ≡ earlier ++ 10 ∷ (b ++ 10 ∷ h.after) = h.whole ∙ (ap (λ (l : List ℕ). l ++ (b ++ 10 ∷ h.after)) later.1 ∙ append_assoc earlier (10 ∷ []) (b ++ 10 ∷ h.after)) in
-      let long = ap length same in
-      let within : length earlier < length a = omega (arith, long, sizes a [], sizes earlier (b ++ 10 ∷ h.after), sizes b h.after) in
+      let within : length earlier < length a = omega (arith, (ap length same), sizes a [], sizes earlier (b ++ 10 ∷ h.after), sizes b h.after) in
       absurd (none (length earlier) within (sym (get_or_append_left a (10 ∷ []) 0 (length earlier) within) ∙ (ap (λ (l : List ℕ). get_or l (length earlier) 0) same ∙ between earlier (b ++ 10 ∷ h.after))))
 ]
 
@@ -50,8 +49,7 @@ one_line a b none h = elim h.starts_line [
 number_unspaced : (n : ℕ) → n ≤ 1000000 → HasNo 32 (decimal n)
 number_unspaced n h k l e =
     let digits : AllDigits 10 (decimal n) = (decimal_is_IsNumeral n (omega arith)).0.1 in
-    let r = digit_at (decimal n) k digits l in
-    omega (arith, r.0)
+    omega (arith, (digit_at (decimal n) k digits l).0)
 
 -- behind the number 2 stands what stands behind the number of the line
 told_here : (n : ℕ) (what : List ℕ) → n ≤ 1000000 → decimal n ++ 32 ∷ what ≡ line → what ≡ codes "block 0001,G,D,,1,1"

@@ -11,7 +11,7 @@ use Rattle.list_core.specs.declared.list_fault.ListCause.{ListCause}
 use Rattle.list_core.specs.EventLine.{event_rules}
 use Rattle.list_core.specs.EventText.{event_text}
 use Rattle.list_core.specs.Items.{Listing, items_in, items_said, listing, put_item, stops}
-use Rattle.list_core.specs.Lines.{finished, Stop, faulty, unfinished}
+use Rattle.list_core.specs.Lines.{finished, Stop, faulty}
 use Rattle.frame_core.specs.Written.{written_frame}
 use Rattle.frame_core.specs.declared.frame.Frame.{Frame}
 use Rattle.list_core.proofs.Lines.{reading-end}
@@ -124,10 +124,7 @@ lines_are blocks t apart is before n _ _ size each = absurd (omega arith)
 -- a list that is written and ended so is replayed by the lines of the entries
 pub ended_lists_replay : {A : Type 0} (blocks : List (Block A)) (events : List (Event A)) (entries : List (List (Entry A))) (end : List ℕ) (t : Text (Event A) ListCause) →
     CanBeWritten blocks events entries → IsReplayText blocks t → EndsList A (1 + length events) end → ReplayGives t (list_text events ++ end) entries
-ended_lists_replay {A} blocks events entries end t w is ends = record {
-  writes = ap₂ (λ (a : List ℕ) (o : Account ListCause). a ++ o.text) is.first told_is;
-  to_its_end = ap (λ (o : Account ListCause). o.stop) told_is;
-}
+ended_lists_replay {A} blocks events entries end t w is ends = record { writes = ap₂ (λ (a : List ℕ) (o : Account ListCause). a ++ o.text) is.first told_is; to_its_end = ap (λ (o : Account ListCause). o.stop) told_is }
   where
     at : (i : ℕ) (x : List (Entry A)) → slice_get entries i ≡ Some x → AreEntriesAt blocks events (0 + i) x
     at i x here = let none : i ≡ 0 + i = omega arith in subst (λ (j : ℕ). AreEntriesAt blocks events j x) none (w.are_entries.each i x here)
@@ -225,19 +222,13 @@ answer_octets {A} p calls i f octets accepted w =
 
 -- a list says nothing by how the text of a script ends
 how_it_ends : {A B : Type 0} (t : Text (ScriptItem A) ScriptCause) (n : ℕ) (stop : Stop (ItemFault ScriptCause)) → IsPublishText t → n < 1000000 → EndsList B n (last_text t stop)
-how_it_ends {A} {B} t n finished is room = nothing_ends B n
-how_it_ends {A} {B} t n unfinished is room = nothing_ends B n
 how_it_ends {A} {B} t n (faulty f) is room = subst (EndsList B n) (sym (is.last f)) (comment_listed n (script_fault_line f) (script_comment f) room ∙ nothing_ends B (n + 1))
+how_it_ends {A} {B} t n _ is room = nothing_ends B n
 
 -- a list without events says nothing
 nothing_replays : {B : Type 0} (block : Block B) (end : List ℕ) (r : Text (Event B) ListCause) → IsReplayText (block ∷ []) r → EndsList B 1 end → ReplayGives r (list_text {A = B} [] ++ end) []
 nothing_replays {B} block end r replay ends =
-    ended_lists_replay (block ∷ []) [] [] end r (record {
-      are_apart = one_apart block;
-      can_be_listed = tt;
-      at_most = omega arith;
-      are_entries = record { sizes = refl; each = λ i es at. absurd (nothing_at i es at) };
-    }) replay ends
+    ended_lists_replay (block ∷ []) [] [] end r (record { are_apart = one_apart block; can_be_listed = tt; at_most = omega arith; are_entries = record { sizes = refl; each = λ i es at. absurd (nothing_at i es at) } }) replay ends
   where
     nothing_at : (i : ℕ) (es : List (Entry B)) → slice_get [] i ≡ Some es → ⊥
     nothing_at zero es at = absurd cc
