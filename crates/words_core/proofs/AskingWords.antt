@@ -218,7 +218,6 @@ plain_means : (t : Asked) → is_plain t ≡ true → (arguments : List Argument
 plain_means (replay blocks) e arguments = absurd (true≢false (sym e))
 plain_means (watch period id) e arguments = absurd (true≢false (sym e))
 plain_means (losses periods) e arguments = absurd (true≢false (sym e))
-plain_means show e arguments = tt
 plain_means _ e arguments = tt
 
 subcommand_asks : (p word name : Text) (words : List Text) (t : Asked) (options : Options) → is_plain t ≡ true → length words ≤ usize_max → AreTexts words → subcommand_met names idle word ≡ Some name

@@ -28,11 +28,7 @@ use Rattle.words_core.proofs.OptionWalks.{Pending, between, dashes, held, meets_
 
 found_in : (has : Switch → Bool) (test : Rule → Bool) (P : Option Rule → Type 0) → P None → P (Some help_flag) → (os : List Switch) → AreAll has os
     → ((o : Switch) → has o ≡ true → test (switch_flag o) ≡ true → P (Some (switch_flag o))) → P (find test (map switch_flag os ++ help_flag ∷ []))
-found_in has test P none help [] all own = go (test help_flag)
-  where
-    go : (b : Bool) → P (cond b (Some help_flag) None)
-    go true = help
-    go false = none
+found_in has test P none help [] all own = elim (test help_flag) as (λ (b : Bool). P (cond b (Some help_flag) None)) [ true ↦ help | false ↦ none ]
 found_in has test P none help (o ∷ os) all own = go (test (switch_flag o)) refl (found_in has test P none help os parts.1 own)
   where
     parts : (has o ≡ true) × AreAll has os
@@ -62,11 +58,7 @@ finds_plain false t test P none help read own = after_read test P read (find tes
 
 short_word : (x flags : Text) → short_of x ≡ Some flags → (x ≡ 45 ∷ flags) × (flags ≡ [] → ⊥)
 short_word [] flags e = cc
-short_word (a ∷ []) flags e = go (a == 45) refl
-  where
-    go : (b : Bool) → (a == 45) ≡ b → (a ∷ [] ≡ 45 ∷ flags) × (flags ≡ [] → ⊥)
-    go true t = let bad : None ≡ Some flags = rw t at e in cc
-    go false t = let bad : None ≡ Some flags = rw t at e in cc
+short_word (a ∷ []) flags e = elim (cases_Bool (a == 45)) [ inl t ↦ let bad : None ≡ Some flags = rw t at e in cc | inr t ↦ let bad : None ≡ Some flags = rw t at e in cc ]
 short_word (a ∷ b ∷ rest) flags e = go (a == 45) (b == 45) refl refl
   where
     some_or : Option Text → Text
@@ -96,11 +88,7 @@ spelled_behind flags u =
 -- a word that is no flag and not the mark is a value
 is_value : (x : Text) → long_of x ≡ None → short_of x ≡ None → bytes_eq x dashes ≡ false → IsValue x
 is_value [] l k d = inl refl
-is_value (a ∷ []) l k d = go (a == 45) refl
-  where
-    go : (b : Bool) → (a == 45) ≡ b → IsValue (a ∷ [])
-    go true t = inr (ap (λ (c : ℕ). c ∷ []) (eqb-true a 45 t))
-    go false t = inl t
+is_value (a ∷ []) l k d = elim (cases_Bool (a == 45)) [ inl t ↦ inr (ap (λ (c : ℕ). c ∷ []) (eqb-true a 45 t)) | inr t ↦ inl t ]
 is_value (a ∷ b ∷ rest) l k d = go (a == 45) (b == 45) refl refl rest l k d
   where
     go : (g h : Bool) → (a == 45) ≡ g → (b == 45) ≡ h → (more : Text) → long_of (a ∷ b ∷ more) ≡ None → short_of (a ∷ b ∷ more) ≡ None → bytes_eq (a ∷ b ∷ more) dashes ≡ false → IsValue (a ∷ b ∷ more)

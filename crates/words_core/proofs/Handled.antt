@@ -164,12 +164,9 @@ next_alone : (waiting : Waiting) → is_free waiting ≡ true → (rows : List R
     → walked replays.rules [] (state waiting rows pending) t ≡ state positional (settled_to replays rows pending) (Some (codes "BLOCK", t ∷ []))
 unfolding walked
 next_alone (option id) g rows pending e t f = absurd (true≢false (sym g))
-next_alone idle g rows None e [] f = refl
-next_alone idle g rows None e (c ∷ cs) f = rw f (rw f refl)
-next_alone idle g rows (Some p) e [] f = rw e refl
-next_alone positional g rows None e [] f = refl
-next_alone positional g rows None e (c ∷ cs) f = rw f (rw f refl)
-next_alone positional g rows (Some p) e [] f = rw e refl
+next_alone _ g rows None e [] f = refl
+next_alone _ g rows None e (c ∷ cs) f = rw f (rw f refl)
+next_alone _ g rows (Some p) e [] f = rw e refl
 next_alone _ g rows (Some p) e (c ∷ cs) f = rw f (rw f (rw e refl))
 
 -- and behind texts of blocks
@@ -177,8 +174,7 @@ next_more : (waiting : Waiting) → is_free waiting ≡ true → (rows : List Ro
     → walked replays.rules [] (state waiting rows (Some (codes "BLOCK", ts))) t ≡ state positional rows (Some (codes "BLOCK", ts ++ t ∷ []))
 unfolding walked
 next_more (option id) g rows ts t f = absurd (true≢false (sym g))
-next_more idle g rows ts [] f = refl
-next_more positional g rows ts [] f = refl
+next_more _ g rows ts [] f = refl
 next_more _ g rows ts (c ∷ cs) f = rw f (rw f refl)
 
 either : (b : Bool) → ((b && true) || true) ≡ true
@@ -188,12 +184,9 @@ either false = refl
 text_passes : (waiting : Waiting) → is_free waiting ≡ true → (rows : List Row) (pending : Pending) → settles replays rows pending ≡ true → (t : Text) → is_flag t ≡ false
     → turn_passes replays [] (state waiting rows pending) t ≡ true
 text_passes (option id) g rows pending k t f = absurd (true≢false (sym g))
-text_passes idle g rows None k [] f = refl
-text_passes idle g rows None k (c ∷ cs) f = rw f (rw f refl)
-text_passes idle g rows (Some p) k [] f = rw k (either (bytes_eq p.0 (codes "BLOCK")))
-text_passes positional g rows None k [] f = refl
-text_passes positional g rows None k (c ∷ cs) f = rw f (rw f refl)
-text_passes positional g rows (Some p) k [] f = rw k (either (bytes_eq p.0 (codes "BLOCK")))
+text_passes _ g rows None k [] f = refl
+text_passes _ g rows None k (c ∷ cs) f = rw f (rw f refl)
+text_passes _ g rows (Some p) k [] f = rw k (either (bytes_eq p.0 (codes "BLOCK")))
 text_passes _ g rows (Some p) k (c ∷ cs) f = rw f (rw f (rw k (either (bytes_eq p.0 (codes "BLOCK")))))
 
 each_passes : (ts : List Text) → list_all (λ (t : Text). true) ts ≡ true
@@ -283,27 +276,22 @@ plain_takes (replay blocks) e a = absurd (true≢false (sym e))
 plain_takes (watch period id) e a = absurd (true≢false (sym e))
 plain_takes (losses periods) e a = absurd (true≢false (sym e))
 plain_takes t e (switch o) = refl
-plain_takes t e (file name) = refl
-plain_takes t e (valued name value) = refl
-plain_takes t e (text b) = refl
+plain_takes t e _ = refl
 
 pub plain_offers : (takes : Bool) (t : Asked) (o : Switch) → is_of takes (switch o) ≡ true → Offers (plain_leaf takes t) o
 plain_offers false t o g = absurd (true≢false (sym g))
 plain_offers true t changes g = absurd (true≢false (sym g))
 plain_offers true t simulation g = absurd (true≢false (sym g))
-plain_offers true t capture g = (refl, refl)
 plain_offers true t _ g = (refl, refl)
 
 pub watch_offers : (o : Switch) → is_common o ≡ true → Offers watches o
 watch_offers changes g = absurd (true≢false (sym g))
 watch_offers simulation g = absurd (true≢false (sym g))
-watch_offers capture g = (refl, refl)
 watch_offers _ g = (refl, refl)
 
 pub losses_offer : (o : Switch) → is_common o ≡ true → Offers losing o
 losses_offer changes g = absurd (true≢false (sym g))
 losses_offer simulation g = absurd (true≢false (sym g))
-losses_offer capture g = (refl, refl)
 losses_offer _ g = (refl, refl)
 
 pub replay_offers : (o : Switch) → Offers replays o

@@ -12,7 +12,7 @@ use Rattle.clap.specs.Simple.{built_leaf, inherited, marked_built, with_leaf_not
 use Rattle.clap.specs.Facts.{explicit_source, unwrap_or_range}
 use Rattle.clap.specs.Faults.{action_fault, check_fault, bundle_fault, bundle_step_fault, defaults_fault, flag_word_fault, flags_fault, level_fault, long_fault, option_fault, other_fault, positional_fault, react_fault, repeat_fault, set_fault, settle_fault, short_fault, step_fault, stray_fault, turn_fault, use_fault, values_fault, walk_fault, word_fault}
 use Rattle.clap.specs.Takes.{is_given, value_passes}
-use Rattle.clap.specs.Walk.{Held, Names, Outcome, Step, Waiting, Walk, action_of, after_flag, after_step, arg_by_id, arg_by_index, arg_by_long, arg_by_short, at_row, attached_value, bundle, bundle_met, bundle_step, done, finished, flag_met, has_row, is_pending, long_met, long_or_other, more_values, most_values, next, nothing_held, option, option_met, option_word, plain, plain_word, reacted, reading_by, refused, row_text, settled, settled_rows, short_met, short_or_plain, subcommand, subcommand_met, subcommand_or_other, takes_several, takes_values, to_positional, trailing, used, used_by_id, value, values_or_missing, waits, walk, walk_from, walked, walked_from, with_default, with_values, without, word_met}
+use Rattle.clap.specs.Walk.{Held, Names, Outcome, Step, Waiting, Walk, action_of, after_flag, after_step, arg_by_id, arg_by_index, arg_by_long, arg_by_short, at_row, attached_value, bundle, bundle_met, bundle_step, done, finished, flag_met, has_row, is_pending, long_met, long_or_other, more_values, most_values, nothing_held, option, option_met, option_word, plain, plain_word, reacted, reading_by, refused, row_text, settled, settled_rows, short_met, short_or_plain, subcommand_met, subcommand_or_other, takes_several, takes_values, to_positional, trailing, used, used_by_id, value, values_or_missing, walk, walk_from, walked, walked_from, with_default, with_values, without, word_met}
 use Rattle.clap.specs.declared.builder.action.ArgAction.TheVariants.{Set}
 use Rattle.clap.specs.declared.builder.value_parser.Reading.{Reading}
 use Rattle.clap.specs.declared.error.kind.ErrorKind.{ErrorKind}
@@ -157,10 +157,9 @@ module _ (c : List Rule) (again : Bool) (P : List Row → Type 0) (all : (test :
   plain_keeps _ _ _ g = g
 
   after_flag_keeps : (waiting : Waiting) (word : Text) (h : Held) (o : Outcome) → P h.rows → P (after_flag c waiting word h o).0.rows
-  after_flag_keeps waiting word h done g = g
-  after_flag_keeps waiting word h (waits id) g = g
   after_flag_keeps waiting word h plain g = plain_keeps waiting word h g
   after_flag_keeps waiting word h refused g = plain_keeps waiting word h g
+  after_flag_keeps _ _ _ _ g = g
 
   short_or_plain_keeps : (waiting : Waiting) (word : Text) (o : Option Text) (h : Held) → P h.rows → option_map_or (λ flags. bundle_fault c again flags h) o [] ≡ []
       → P (short_or_plain c waiting word o h).0.rows
@@ -202,10 +201,8 @@ module _ (s : Shape) (names : Names) (P : List Row → Type 0) (all : (test : Ru
       go false f = settled_keeps s.rules s.args_override_self P all h g f
 
   after_step_keeps : (word : Text) (w : Walk) (h : Held) (step : Step) → P h.rows → step_fault s w.position h step ≡ [] → P (after_step s.rules word w h step).held.rows
-  after_step_keeps word w h (next waiting) g e = g
-  after_step_keeps word w h (trailing position) g e = g
-  after_step_keeps word w h (subcommand name) g e = g
   after_step_keeps word w h value g e = positional_keeps (arg_by_index s.rules w.position) word w h g e
+  after_step_keeps _ _ _ _ g _ = g
 
   turn_keeps : (stopped : Option (Text × List Text)) (w : Walk) (word : Text) → P w.held.rows
       → (if is_some stopped then [] else or_else (word_fault s names w.is_trailing w.waiting word w.held)

