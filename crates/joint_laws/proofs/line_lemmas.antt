@@ -6,7 +6,6 @@ pub mod Spelled
 pub mod Optional
 pub mod Told
 pub mod EntrySaid
-pub mod AsduSaid
 pub mod ShowSaid
 pub mod LossGiven
 pub mod AllSaid

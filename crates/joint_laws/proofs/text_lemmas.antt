@@ -1,6 +1,5 @@
 pub mod PlainTexts
 pub mod CommentLines
-pub mod WrittenLists
 pub mod WrittenOctets
 pub mod OneText
 pub mod ScriptSizes

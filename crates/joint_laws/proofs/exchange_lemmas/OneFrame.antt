@@ -354,29 +354,16 @@ have_entries n (c ∷ cs) each = (request_entries n c.request (λ x e. each 0 x 
 
 pub whole_runs_replay : {A B : Type 0} → WholeRunsReplay A B
 whole_runs_replay {A} {B} p block calls answers w few =
+    let by_steps : List (Option (Frame A)) = run_publisher (new_publisher p) calls in
+    let are_answers : AreAnswers p calls by_steps = publisher_runs p calls w.some w.most in
+    let one : answers ≡ by_steps = answers_are_one p calls answers by_steps w.are_answers are_answers in
+    let events : List (Event B) = published_events (sent_from 0 calls by_steps) in
+    let read : map reading_of events ≡ readings_of (sent_from 0 calls by_steps) =
+    list_read B (sent_from 0 calls by_steps) (sent_spelled 0 calls by_steps (λ i f at. frame_spelled p calls i f w.held w.accepted (are_answers.each i (Some f) at))) in
+    let all : p.first + count calls ≤ 4294967296 = let bound : p.first + changes (trace_of_calls calls) (length calls) ≤ 4294967295 + 1 = w.no_wrap in omega (arith, bound, count_all calls) in
+    let runs : run_events (fresh_state (block ∷ [])) (readings_of (sent_from 0 calls by_steps)) ≡ one_entry_each (sent_from 0 calls by_steps) =
+    begin_from p block w.own w.steps calls p.first 0 0 w.some all (subst (λ (a : List (Option (Frame A))). length (sent_from 0 calls a) ≤ 4294967295) one few) (omega arith)
+    (have_entries p.control.entries calls (λ i x at. (w.accepted i x at).entries))
+    (subst (λ (a : List (Option (Frame A))). InTime (sent_from 0 calls a)) one w.in_time) in
     subst (λ (a : List (Option (Frame A))). AreEntries (block ∷ []) (published_events {B = B} (sent_from 0 calls a)) (one_entry_each (sent_from 0 calls a))) (sym one)
     (subst (AreEntries (block ∷ []) events) (ap (run_events (fresh_state (block ∷ []))) read ∙ runs) (runs_are_whole (block ∷ []) events))
-  where
-    by_steps : List (Option (Frame A))
-    by_steps = run_publisher (new_publisher p) calls
-
-    are_answers : AreAnswers p calls by_steps
-    are_answers = publisher_runs p calls w.some w.most
-
-    one : answers ≡ by_steps
-    one = answers_are_one p calls answers by_steps w.are_answers are_answers
-
-    events : List (Event B)
-    events = published_events (sent_from 0 calls by_steps)
-
-    read : map reading_of events ≡ readings_of (sent_from 0 calls by_steps)
-    read = list_read B (sent_from 0 calls by_steps) (sent_spelled 0 calls by_steps (λ i f at. frame_spelled p calls i f w.held w.accepted (are_answers.each i (Some f) at)))
-
-    all : p.first + count calls ≤ 4294967296
-    all = let bound : p.first + changes (trace_of_calls calls) (length calls) ≤ 4294967295 + 1 = w.no_wrap in omega (arith, bound, count_all calls)
-
-    runs : run_events (fresh_state (block ∷ [])) (readings_of (sent_from 0 calls by_steps)) ≡ one_entry_each (sent_from 0 calls by_steps)
-    runs =
-        begin_from p block w.own w.steps calls p.first 0 0 w.some all (subst (λ (a : List (Option (Frame A))). length (sent_from 0 calls a) ≤ 4294967295) one few) (omega arith)
-        (have_entries p.control.entries calls (λ i x at. (w.accepted i x at).entries))
-        (subst (λ (a : List (Option (Frame A))). InTime (sent_from 0 calls a)) one w.in_time)

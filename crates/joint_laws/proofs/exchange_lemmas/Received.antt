@@ -62,19 +62,12 @@ same_pdu x y e = ap (pdu_or x.pdu) e
 
 -- octets that spell a frame with this APDU are read as it
 pub pdu_read : {A B : Type 0} (e : Event B) (r : EventRead) (x : FrameRead) (o : List ℕ) (f : Frame A) (q : GoosePdu A) → IsRead e r → r.content ≡ OfGoose x → e.kind ≡ kinds.Frame o → SpellsFrame f o → f.apdu ≡ apdus.Goose q → x.pdu ≡ plain q
-pdu_read {A} {B} e r x o f q read goose kind s unit = same_pdu x y (sym goose ∙ ap (λ (z : EventRead). z.content) same)
-  where
-    y : FrameRead
-    y = record { app_id = f.app_id; pdu = plain q }
-
-    other : EventRead
-    other = record { moment = e.moment; content = OfGoose y }
-
-    told : IsRead e other
-    told = record { moment = refl; content = subst (λ (k : EventKind B). IsContent k (OfGoose y)) (sym kind) (plain_frame f q, plain_spelled f q o unit s, refl, refl) }
-
-    same : r ≡ other
-    same = read_one e r read ∙ sym (read_one e other told)
+pdu_read {A} {B} e r x o f q read goose kind s unit =
+    let y : FrameRead = record { app_id = f.app_id; pdu = plain q } in
+    let other : EventRead = record { moment = e.moment; content = OfGoose y } in
+    let told : IsRead e other = record { moment = refl; content = subst (λ (k : EventKind B). IsContent k (OfGoose y)) (sym kind) (plain_frame f q, plain_spelled f q o unit s, refl, refl) } in
+    let same : r ≡ other = read_one e r read ∙ sym (read_one e other told) in
+    same_pdu x y (sym goose ∙ ap (λ (z : EventRead). z.content) same)
 
 -- a reading in its place is that of an event
 pub read_at : {A : Type 0} (events : List (Event A)) (readings : List EventRead) (i : ℕ) (r : EventRead) → AreRead events readings → slice_get readings i ≡ Some r → (e : Event A) × (slice_get events i ≡ Some e) × IsRead e r

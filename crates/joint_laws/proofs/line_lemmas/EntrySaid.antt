@@ -112,13 +112,7 @@ with_block i b of_fields text line is said =
 
 reason_plain : (r : Reason) → ArePlain (name_of_reason r)
 reason_plain reason.DatSet = by_test (codes "DatSet") refl
-reason_plain reason.GoId = by_test (codes "GoId") refl
-reason_plain reason.ConfRev = by_test (codes "ConfRev") refl
-reason_plain reason.Commissioning = by_test (codes "Commissioning") refl
-reason_plain reason.Simulated = by_test (codes "Simulated") refl
-reason_plain reason.Entries = by_test (codes "Entries") refl
-reason_plain reason.StateZero = by_test (codes "StateZero") refl
-reason_plain reason.LiveZero = by_test (codes "LiveZero") refl
+reason_plain c = by_test (name_of_reason c) refl
 
 short_by : (z : ℤ) (m k : ℕ) → z ≡ pos m -ℤ pos k → m < 2 ^ 64 → k < 2 ^ 62 → IsShort z
 short_by (pos a) m k e h l = omega (arith, ints, e)
@@ -238,10 +232,8 @@ given_content (kinds.Frame o) (OfGoose g) given (f, spelled, app, apdu) =
     let spells : SpellsGoose g.pdu held.apdu = subst (λ (a : Apdu (Unit {0})). SpellsApdu a held.apdu) apdu held.spells in
     (subst ApduIsSpellable apdu (frame_spellable o f given spelled), members_spelled g.pdu held.apdu held.are_octets spells)
 given_content (kinds.Frame o) (OfFault fault) given wrong = fault_wide {A = Unit {0}} o fault (frame_wrong_again o fault wrong)
-given_content kinds.Clock (OfGoose g) given is = absurd is
-given_content kinds.Clock (OfFault fault) given is = absurd is
-given_content (kinds.Mode set) (OfGoose g) given is = absurd is
-given_content (kinds.Mode set) (OfFault fault) given is = absurd is
+given_content _ (OfGoose g) given is = absurd is
+given_content _ (OfFault fault) given is = absurd is
 given_content _ _ _ _ = tt
 
 -- the last of several events is read so

@@ -281,9 +281,8 @@ more_small : (moment : ℕ) (shown : Shown) (key : Key) (known : Progress) → I
 more_small moment (frame p lifetime) key (frames t) wide given small =
     let a : Arrival = record { pair = p; moment = moment; lifetime = lifetime } in
     sums_small t.totals a (told_after (Some t.sender) a) t.set_at small.7 wide
-more_small moment (sample count synch) (sender a r s) (samples u z) wide given small = absurd given
+more_small moment (sample count synch) (sender a r s) known wide given small = absurd given
 more_small moment (sample count synch) (stream a o i) (samples u z) wide given small = (small.0, stream_sums_small u.totals _, given.1)
-more_small moment (sample count synch) (sender a r s) (counted n z) wide given small = absurd given
 more_small moment (sample count synch) (stream a o i) (counted n z) wide given small = (kept_wide (n + 1), given.1)
 more_small _ _ _ _ _ _ small = small
 

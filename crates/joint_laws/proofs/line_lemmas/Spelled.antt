@@ -10,7 +10,7 @@ use Rattle.mms_data.specs.Data.{Data}
 use Rattle.mms_data.specs.Spelling.{SpellsAll}
 use Rattle.mms_data.proofs.SpelledSpellable.{back_octets, contents_octets, front_octets}
 use Rattle.pdu_core.specs.Asdu.{asdu_fields, asdu_items, some_octets_if}
-use Rattle.pdu_core.specs.Contents.{Item, Kind, SpellsContents, a_fixed, a_flag, a_number, a_text, a_time, contents_grammar, few, members, raw, some_members, some_octets}
+use Rattle.pdu_core.specs.Contents.{Item, Kind, SpellsContents, contents_grammar, few, members, raw, some_members, some_octets}
 use Rattle.pdu_core.specs.Goose.{SpellsGoose, goose_fields, goose_items}
 use Rattle.pdu_core.specs.Sampled.{SpellsSv, SpellsSvContents, SvItem, SvKind, asdu_grammar, asdus, items_of_each, some_asdus, sv_grammar}
 use Rattle.pdu_core.specs.declared.goose.GoosePdu.{GoosePdu}
@@ -28,25 +28,17 @@ AreSpelled ds = (o : List ℕ) × AreOctets o × SpellsAll ds 1 o
 
 -- the octets that a value of a field holds, and the members
 abbrev Holds : Item → Type 0
-Holds (a_text t) = Unit {0}
-Holds (a_number n) = Unit {0}
-Holds (a_flag b) = Unit {0}
-Holds (a_time t) = Unit {0}
 Holds (some_members ds) = AreSpelled ds
-Holds (a_fixed count n) = Unit {0}
 Holds (some_octets o) = AreOctets o
+Holds _ = Unit {0}
 
 holds : (k : Kind) (x : Item) (c : List ℕ) → AreOctets c → SpellsContents k x c → Holds x
 holds members (some_members ds) c h s = (c, h, s)
 holds raw (some_octets o) c h s = subst AreOctets s h
 holds few (some_octets o) c h s = subst AreOctets s.0 h
-holds k (a_text t) c h s = tt
-holds k (a_number n) c h s = tt
-holds k (a_flag b) c h s = tt
-holds k (a_time t) c h s = tt
-holds k (a_fixed count n) c h s = tt
 holds k (some_members ds) c h s = absurd s
 holds k (some_octets o) c h s = absurd s
+holds _ _ _ _ _ = tt
 
 abbrev HoldsIf : Option Item → Type 0
 HoldsIf None = Unit {0}

@@ -48,11 +48,9 @@ glyph_printed d = cond_both (nat_lt d 10) _ _ (λ (x : ℕ). nat_le 32 x ≡ tru
 onto_short : (k n m : ℕ) (acc : List ℕ) → IsShort m acc → IsShort (k + m) (digits_onto k 10 false n acc)
 onto_short zero n m acc p = let l = p.1 in (p.0, omega (arith, l))
 onto_short (suc k) n m acc p =
+    let more : IsShort (suc m) (digit_glyph false (n % 10) ∷ acc) = let l = p.1 in (and_from (nat_le 32 (digit_glyph false (n % 10))) (printed acc) (glyph_printed (n % 10)) p.0, omega (arith, l)) in
     cond_both (n / 10 == 0) _ _ (IsShort (suc k + m)) (λ last. (more.0, let l = more.1 in omega (arith, l)))
     (λ others. let w = onto_short k (n / 10) (suc m) (digit_glyph false (n % 10) ∷ acc) more in (w.0, let l = w.1 in omega (arith, l)))
-  where
-    more : IsShort (suc m) (digit_glyph false (n % 10) ∷ acc)
-    more = let l = p.1 in (and_from (nat_le 32 (digit_glyph false (n % 10))) (printed acc) (glyph_printed (n % 10)) p.0, omega (arith, l))
 
 decimal_short : (n : ℕ) → IsShort 64 (decimal n)
 unfolding digits

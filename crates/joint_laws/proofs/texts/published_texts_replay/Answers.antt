@@ -1,5 +1,4 @@
-use Rattle.joint_laws.proofs.text_lemmas.PublishedScripts.{scripts_give_lists}
-use Rattle.joint_laws.proofs.text_lemmas.WrittenLists.{published_texts_replay}
+use Rattle.joint_laws.proofs.text_lemmas.PublishedScripts.{scripts_give_lists, published_texts_replay}
 use Rattle.joint_laws.proofs.text_lemmas.ScriptRuns.{scripts_say_runs}
 use Rattle.joint_laws.proofs.texts.published_texts_replay.Goals as goal
 

@@ -1,4 +1,4 @@
-use Rattle.joint_laws.proofs.text_lemmas.WrittenLists.{written_lists_replay}
+use Rattle.joint_laws.proofs.text_lemmas.PublishedScripts.{written_lists_replay}
 use Rattle.joint_laws.proofs.texts.written_lists_replay.Goals as goal
 
 pub returns : goal.returns
