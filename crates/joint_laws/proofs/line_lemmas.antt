@@ -4,7 +4,6 @@ pub mod FaultPlaces
 pub mod Visible
 pub mod Spelled
 pub mod Optional
-pub mod Told
 pub mod EntrySaid
 pub mod ShowSaid
 pub mod LossGiven

@@ -3,7 +3,6 @@ pub mod CommentLines
 pub mod WrittenOctets
 pub mod OneText
 pub mod ScriptSizes
-pub mod ScriptRuns
 pub mod PublishedScripts
 pub mod WorkedExamples
 pub mod ListedItems

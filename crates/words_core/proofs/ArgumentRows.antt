@@ -10,14 +10,13 @@ use Rattle.clap.specs.Walk.{arg_by_id, has_row, reading_by, stronger, with_value
 use Rattle.clap.specs.declared.builder.value_parser.Reading.{Reading}
 use Rattle.clap.specs.declared.parser.matches.ValueSource.TheVariants.{CommandLine}
 use Rattle.words_core.specs.RequestLine.{Argument, argument_name, argument_text, given_as, read_rule, SayAll, Says, SaysByLetter, Switch, file, is_attached, is_set, switch_name}
-use Rattle.words_core.proofs.Switches.{has_at, more_other, new_row, row_at, self_eq, set_other, set_own, read_flag, set_by, switch_flag}
+use Rattle.words_core.proofs.Switches.{has_at, more_other, new_row, row_at, self_eq, set_other, set_own, read_flag, set_by, switch_flag, Pending, between, both_true, dashes, held, meets_none, passes_behind, settled_to, settles, state}
 use Rattle.std.specs.Char.{encode_utf8}
 use Rattle.std.proofs.lemmas.List.Sums.{fold-append}
 use Rattle.clap.specs.Lexer.{long_of, usize_max}
 use Rattle.clap.specs.Takes.{default_passes, flags_pass, is_valid, level_passes, settle_passes, turn_passes, use_passes, walk_passes}
 use Rattle.clap.proofs.WalkLemmas.{both}
 use Rattle.words_core.specs.CommandLine.{IsValue, SaysOption, is_flag}
-use Rattle.words_core.proofs.OptionWalks.{Pending, between, both_true, dashes, held, meets_none, passes_behind, settled_to, settles, state}
 use Rattle.words_core.proofs.LoneFlags.{IsEnd}
 
 -- ---- what is given under a name

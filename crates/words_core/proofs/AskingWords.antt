@@ -10,17 +10,16 @@ use Rattle.std.proofs.lemmas.Bool.{cases_Bool}
 use Rattle.clap.specs.Words.{App, Row, Shape, Text, built, fault_of, first_of, one_of, is_simple, takes}
 use Rattle.clap.specs.Faults.{entered_fault, level_fault, walk_fault}
 use Rattle.clap.specs.Simple.{entered, label_of, names_of, rows_at}
-use Rattle.clap.specs.Walk.{Names, Walk, answers_to, idle, nothing_held, rows_after, stop_after, subcommand_met, walk_from, walked, finished, walk, reading_by}
+use Rattle.clap.specs.Walk.{Names, Walk, answers_to, idle, nothing_held, rows_after, stop_after, subcommand_met, walk_from, walked, finished, walk}
 use Rattle.clap.proofs.OnLiterals.{clap_on_literals}
 use Rattle.clap.proofs.WalkLemmas.{find-map, both}
 use Rattle.clap.specs.Lexer.{usize_max, without_minus}
-use Rattle.words_core.specs.CommandLine.{Asked, Meaning, Subcommand, Unsaid, blocks_in, check, first_bad_block, first_bad_period, import, is_plain, list_blocks, losing, losses, losses_shape, name_of, no_block, no_period, number_said, periods_in, plain, publish, replay, replay_shape, replaying, rewrite, show, subcommands, takes_options, task_asked, watch, watch_shape, watching, block_at, losses_of, period_at, replay_of, watch_asked}
-use Rattle.words_core.proofs.KeptRows.{EachIs, first_none, found_is, leaf, texts_in, then_none}
+use Rattle.words_core.specs.CommandLine.{Asked, Meaning, Subcommand, Unsaid, blocks_in, check, first_bad_block, first_bad_period, import, is_plain, list_blocks, losing, losses, losses_shape, name_of, no_block, no_period, number_said, periods_in, plain, publish, replay, replay_shape, replaying, rewrite, show, subcommands, takes_options, task_asked, watch, watch_shape, watching, block_at, losses_of, period_at, replay_of}
+use Rattle.words_core.proofs.KeptRows.{EachIs, first_none, found_is, leaf, texts_in, then_none, fits_back, id_option, period_option, watches}
 use Rattle.words_core.specs.declared.option_words.Options.{Options}
 use Rattle.words_core.specs.RequestLine.{AreTexts, Argument, AsksWith, Means, Wish, file_asked, file_of_words, named_once, offered, options_in, request_asked, request_line, request_of_words, switch_name, takes_argument, Switch, contradict, is_on, is_set, with_these, SayPeriods, argument_name, argument_text, changes, file, given_as, simulation, switch, text, valued}
 use Rattle.words_core.proofs.LoneFlags.{AreFlags, help_flag, lone_mark, version_flag, leaf_no_index, plain_leaf, plain_leave, Leaves, own_leave}
-use Rattle.words_core.proofs.Switches.{once_if, default_other, default_set, new_row, row_at, switch_flag, is_on_in, options_from, apart}
-use Rattle.words_core.proofs.OptionWalks.{dashes, both_true}
+use Rattle.words_core.proofs.Switches.{once_if, default_other, default_set, row_at, switch_flag, is_on_in, options_from, apart, dashes, both_true}
 use Rattle.words_core.proofs.FoundWords.{Behind, behind, finds_plain}
 use Rattle.words_core.proofs.Handled.{is_of, plain_handled, plain_offers, plain_reads, plain_takes, IsApart, block_argument, file_handled, id_handled, losing as losses_leaf, losses_offer, losses_read, period_handled, replay_offers, replay_reads, replays, stream_handled, stream_period, switch_handled, text_handled, watch_offers, watch_reads}
 use Rattle.words_core.proofs.WordLemmas.{wish_parts, simple_line}
@@ -31,15 +30,12 @@ use Rattle.std.proofs.lemmas.Int.{ints}
 use Rattle.clap.specs.ValueTests.{accepts}
 use Rattle.clap.specs.declared.builder.value_parser.Reading.{Reading}
 use Rattle.clap.specs.declared.builder.value_parser.ValueParser.TheVariants as parses
-use Rattle.clap.specs.declared.parser.matches.ValueSource.TheVariants.{CommandLine}
 use Rattle.clap.proofs.ValueTestLemmas.{Accepts-accepts}
 use Rattle.block_core.specs.declared.block.Block.{Block}
 use Rattle.block_core.specs.Period.{IsPeriod}
 use Rattle.loss_core.specs.Periods.{Period}
 use Rattle.words_core.proofs.ArgumentRows.{how_read, row_for, row_texts, Each, Ended, Handled, arguments_end, each_of, level_ended, set_held}
-use Rattle.words_core.proofs.Digits.{no_minus, no_plus, text_says}
-use Rattle.words_core.proofs.SaidTexts.{all_meant}
-use Rattle.words_core.proofs.WatchRows.{fits_back, id_option, period_option, watches}
+use Rattle.words_core.proofs.Digits.{no_minus, no_plus, text_says, all_meant}
 
 -- the built command, its words before a subcommand, and the names of its subcommands
 abbrev pub line : App
@@ -347,10 +343,6 @@ record Command (t : Asked) (s : Shape) : Type 1 where
 abbrev HoldOthers : Shape → List Row → List Argument → Type 0
 HoldOthers s rows all = (id : Text) → IsApart id → row_at id rows ≡ row_for id (how_read s id) (given_as id all)
 
-there_is : {X : Type 0} (o : Option X) (x : X) → o ≡ Some x → is_some o ≡ true
-there_is None x e = cc
-there_is (Some y) x e = refl
-
 first_named : (how : Reading) (from : Option Text) → option_and_then (λ r. slice_get r.values 0) (row_for (codes "read") how (named_once from)) ≡ from
 first_named how None = refl
 first_named how (Some name) = refl
@@ -360,7 +352,7 @@ command_taken : (t : Asked) (s : Shape) → Command t s → (words : List Text) 
 command_taken t s c words options from a fits each asks = subst (λ (w : List Text). IsTaken w t options from) (sym a.behind) (
   ap (λ (o : Option (Text × List Text)). option_and_then request_asked (entered line o)) stop ∙ ap (option_and_then request_asked) (c.enters rest)
       ∙ wished options rows t (task_asked (name_of t, rows)) so.0 set a.agree,
-  taken_behind a.called (name_of t) rest c.met (there_is (entered line (Some (name_of t, rest))) (name_of t, rows) (c.enters rest))
+  taken_behind a.called (name_of t) rest c.met (ap is_some (c.enters rest))
       (c.passes rest (level_ended s a.arguments rest ended c.again c.defaults so.1)),
   ap (λ (o : Option (Text × List Text)). option_and_then file_asked (entered line o)) stop ∙ ap (option_and_then file_asked) (c.enters rest) ∙ named,
 )
@@ -514,14 +506,6 @@ all_both p q (a ∷ args) e f =
     let second = both (q a) (list_all q args) f in
     rw (first.0, second.0) (all_both p q args first.1 second.1)
 
-watch_valid : (rows : List Row) (digits id : Text) → row_at (codes "period") rows ≡ Some (new_row (codes "period") (reading_by period_option) CommandLine (digits ∷ []))
-    → row_at (codes "id") rows ≡ Some (new_row (codes "id") (reading_by id_option) CommandLine (id ∷ [])) → is_valid watches rows false ≡ true
-watch_valid rows digits id p i = rw (p, i) refl
-
-watch_says : (rows : List Row) (digits id : Text) (period : ℕ) → row_at (codes "period") rows ≡ Some (new_row (codes "period") (reading_by period_option) CommandLine (digits ∷ []))
-    → row_at (codes "id") rows ≡ Some (new_row (codes "id") (reading_by id_option) CommandLine (id ∷ [])) → number_said (without_minus digits) ≡ Some period → watch_asked rows ≡ Some (Ok (watch period id))
-watch_says rows digits id period p i say = rw (p, i) (rw say refl)
-
 watch_asked_for : (period : ℕ) (id : Text) (words : List Text) (options : Options) (from : Option Text) → length words ≤ usize_max → AsksWith words (watch period id) options from → IsTaken words (watch period id) options from
 watch_asked_for period id words options from fits a =
     command_taken (watch period id) watches
@@ -558,7 +542,7 @@ watch_asked_for period id words options from fits a =
     asks rows held =
         let p = held (codes "period") (apart (codes "period") refl) ∙ ap (row_for (codes "period") (how_read watches (codes "period"))) one.are in
         let i = held (codes "id") (apart (codes "id") refl) ∙ ap (row_for (codes "id") (how_read watches (codes "id"))) a.means.1 in
-        (watch_says rows one.digits id period p i one.say, watch_valid rows one.digits id p i)
+        (rw (p, i) (rw one.say refl), rw (p, i) refl)
 
 -- ---- each task
 

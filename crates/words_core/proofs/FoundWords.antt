@@ -21,8 +21,7 @@ use Rattle.words_core.proofs.ArgumentRows.{Hold, given_append, hold_more, how_re
 use Rattle.words_core.proofs.Handled.{Offers, file_goes, is_of, switch_led}
 use Rattle.words_core.proofs.KeptRows.{first_none, then_none}
 use Rattle.words_core.proofs.LoneFlags.{help_flag, marked, nothing_behind, stray, turn_none, IsEnd, Leaves, long_word, plain_leaf}
-use Rattle.words_core.proofs.Switches.{default_other, default_set, has_at, read_flag, row_at, switch_flag, AreAll, apart, first_has, is_common}
-use Rattle.words_core.proofs.OptionWalks.{Pending, between, dashes, held, meets_none, settled_to, state}
+use Rattle.words_core.proofs.Switches.{default_other, default_set, has_at, read_flag, row_at, switch_flag, AreAll, apart, first_has, is_common, Pending, between, dashes, held, meets_none, settled_to, state}
 
 -- ---- which argument is found
 

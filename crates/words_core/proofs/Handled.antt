@@ -16,11 +16,9 @@ use Rattle.clap.specs.declared.parser.matches.ValueSource.TheVariants.{CommandLi
 use Rattle.words_core.specs.CommandLine.{Asked, block_rule, is_flag, is_plain, losses, losses_shape, replay, replay_shape, stream_period_rule, takes_options, watch}
 use Rattle.words_core.specs.RequestLine.{Argument, Says, Switch, argument_name, argument_text, capture, changes, file, given_as, offered, read_rule, simulation, switch, switch_name, switch_word, takes_argument, text, valued}
 use Rattle.words_core.proofs.ArgumentRows.{how_read, puts, Handled, IsNamed, Reads, Spelled, Stands, Went, file_spelled, is_free, named_spelled, size_of, spelled_goes, went_to}
-use Rattle.words_core.proofs.KeptRows.{leaf}
-use Rattle.words_core.proofs.Switches.{read_flag, self_eq, strongest, switch_flag, use_switch, apart_from, is_common, one_name}
-use Rattle.words_core.proofs.OptionWalks.{Pending, between, both_true, dashes, meets_none, settled_to, settles, state}
+use Rattle.words_core.proofs.KeptRows.{leaf, id_option, period_option, watches}
+use Rattle.words_core.proofs.Switches.{read_flag, self_eq, strongest, switch_flag, use_switch, apart_from, is_common, one_name, Pending, between, both_true, dashes, meets_none, settled_to, settles, state}
 use Rattle.words_core.proofs.LoneFlags.{plain_leaf}
-use Rattle.words_core.proofs.WatchRows.{id_option, period_option, watches}
 
 -- the subcommand `replay` as it is built
 abbrev pub replays : Shape

@@ -1,8 +1,5 @@
 pub mod Switches
 pub mod KeptRows
-pub mod OptionWalks
-pub mod WatchRows
-pub mod SaidTexts
 pub mod Digits
 pub mod WordLemmas
 pub mod LoneFlags

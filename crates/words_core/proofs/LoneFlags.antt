@@ -12,12 +12,11 @@ use Rattle.clap.specs.Simple.{filled, help_rule, version_rule, with_index}
 use Rattle.clap.specs.Walk.{Held, Names, Step, Waiting, Walk, after_flag, arg_by_index, arg_by_long, arg_by_short, bundle_met, has_long, has_short, idle, long_or_other, nothing_held, plain, short_or_plain, subcommand_met, subcommand_or_other, value, walk_from, walked, with_default}
 use Rattle.clap.specs.declared.error.kind.ErrorKind.TheVariants as kind
 use Rattle.words_core.proofs.KeptRows.{first_none, then_none, leaf, no_default, no_defaults}
-use Rattle.words_core.proofs.OptionWalks.{Pending, between, dashes, held, state}
+use Rattle.words_core.proofs.Switches.{Pending, between, dashes, held, state, read_flag, switch_flag, both_false}
 use Rattle.std.specs.List.{after_first, before_first, list_any, position_or_len}
 use Rattle.std.proofs.lemmas.List.Sums.{passes_at_first, split_at_first}
 use Rattle.words_core.specs.CommandLine.{Asked, plain as plain_command}
 use Rattle.words_core.specs.RequestLine.{Switch, offered, switches}
-use Rattle.words_core.proofs.Switches.{read_flag, switch_flag, both_false}
 
 abbrev pub help_flag : Rule
 help_flag = with_index 1 (filled help_rule)

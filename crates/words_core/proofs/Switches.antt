@@ -1,23 +1,24 @@
 -- The options as one list, in which each is found by its name: what holds all along the list holds of each.
-use Rattle.std.proofs.Common.{◌≡◌, ◌||◌, ◌∙◌, Bool, true, false, true≢false, List, ◌∷◌, Option, Some, None, option_map, unwrap_or, refl, sym, ap, ℕ, [], is_some, option_and_then, subst, inl, inr}
-use Rattle.std.specs.Prelude.{find, codes, if◌then◌else◌}
+use Rattle.std.proofs.Common.{◌≡◌, ◌||◌, ◌∙◌, Bool, true, false, true≢false, List, ◌∷◌, Option, Some, None, option_map, unwrap_or, refl, sym, ap, ℕ, [], is_some, option_and_then, subst, inl, inr, ◌&&◌, ◌++◌}
+use Rattle.std.specs.Prelude.{find, codes, if◌then◌else◌, fold}
 use Rattle.std.specs.List.{list_all}
 use Rattle.std.specs.Str.{bytes_eq}
 use Rattle.std.proofs.lemmas.Slice.Eq.{bytes_eq-Decides}
 use Rattle.words_core.specs.declared.option_words.Options.{Options}
 use Rattle.words_core.specs.declared.option_words.Writing.{Writing}
 use Rattle.words_core.specs.declared.option_words.Writing.TheVariants.{Lines}
-use Rattle.clap.specs.Words.{Row, Text, Rule}
+use Rattle.clap.specs.Words.{Row, Text, Rule, Shape}
 use Rattle.clap.proofs.WalkLemmas.{both}
 use Rattle.words_core.specs.RequestLine.{Switch, capture, is_dated, is_object, is_on, is_option, is_set, json, options_given, options_in, replay_switches, switch_name, switch_word, time, writing_by, read_rule}
 use Rattle.std.specs.Option.{option_map_or}
 use Rattle.std.proofs.lemmas.Bool.{cases_Bool}
 use Rattle.clap.specs.Simple.{filled, with_index}
-use Rattle.clap.specs.Walk.{has_row, reading_by, row_text, stronger, used, with_default, with_values, without}
+use Rattle.clap.specs.Walk.{has_row, reading_by, row_text, stronger, used, with_default, with_values, without, Held, Waiting, Walk, idle, settled_rows, subcommand_met, walked}
 use Rattle.clap.specs.declared.builder.value_parser.Reading.{Reading}
 use Rattle.clap.specs.declared.parser.matches.ValueSource.{ValueSource}
 use Rattle.clap.specs.declared.parser.matches.ValueSource.TheVariants.{CommandLine, DefaultValue}
 use Rattle.words_core.specs.CommandLine.{option_named}
+use Rattle.clap.specs.Takes.{settle_passes, walk_passes}
 
 pub both_false : (a b : Bool) → (a || b) ≡ false → (a ≡ false) × (b ≡ false)
 both_false false b e = (refl, e)
@@ -208,3 +209,45 @@ default_set o s rows = elim (cases_Bool (bytes_eq (switch_name s) (switch_name o
   | inl t ↦ subst (λ (x : Switch). is_set (switch_name x) (with_default rows (switch_flag s)) ≡ is_set (switch_name x) rows) (one_name s o t) (default_own s rows)
   | inr t ↦ ap set_by (default_other s (switch_name o) t rows)
 ]
+
+-- ---- where a walk over words is, and that words pass one behind the other
+
+pub both_true : (a b : Bool) → a ≡ true → b ≡ true → (a && b) ≡ true
+both_true a b e f = rw (e, f) refl
+
+-- the mark behind which no option follows
+abbrev pub dashes : Text
+dashes = 45 ∷ 45 ∷ []
+
+abbrev pub Pending : Type 0
+Pending = Option (Text × List Text)
+
+abbrev pub held : List Row → Pending → Held
+held rows pending = record { rows = rows; pending = pending; skip = 0 }
+
+-- between two words
+abbrev pub state : Waiting → List Row → Pending → Walk
+state waiting rows pending = record { held = held rows pending; waiting = waiting; position = 1; is_trailing = false; stopped = None }
+
+abbrev pub between : List Row → Pending → Walk
+between = state idle
+
+-- a command without subcommands meets none
+pub meets_none : (waiting : Waiting) (word : Text) → subcommand_met [] waiting word ≡ None
+meets_none idle word = refl
+meets_none _ word = refl
+
+-- the rows with what is pending, and whether that passes
+abbrev pub settled_to : Shape → List Row → Pending → List Row
+settled_to s rows pending = settled_rows s.rules pending rows
+
+abbrev pub settles : Shape → List Row → Pending → Bool
+settles s rows pending = settle_passes s.rules false (held rows pending)
+
+pub passes_behind : (s : Shape) (w : Walk) (first second : List Text) → walk_passes s [] w first ≡ true → walk_passes s [] (fold (walked s.rules []) w first) second ≡ true
+    → walk_passes s [] w (first ++ second) ≡ true
+unfolding walk_passes
+passes_behind s w [] second p q = q
+passes_behind s w (x ∷ first) second p q =
+    let parts = both _ _ p in
+    both_true _ _ parts.0 (passes_behind s (walked s.rules [] w x) first second parts.1 q)

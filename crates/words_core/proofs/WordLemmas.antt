@@ -20,8 +20,7 @@ use Rattle.words_core.specs.declared.words.Request.{Request}
 use Rattle.words_core.specs.declared.words.Task.{Task}
 use Rattle.words_core.specs.declared.words.WordsError.{WordsError}
 use Rattle.words_core.specs.declared.words.WordsError.TheVariants as refused
-use Rattle.words_core.proofs.KeptRows.{EachIs, first_none, found_is, leaf, level_checked, texts_in, then_none}
-use Rattle.words_core.proofs.WatchRows.{watch_says}
+use Rattle.words_core.proofs.KeptRows.{EachIs, first_none, found_is, leaf, level_checked, texts_in, then_none, watch_says}
 use Rattle.words_core.proofs.Digits.{periods_in_range}
 use Rattle.words_core.specs.CommandLine.{AnswersTask, AnswersUnsaid, Asked, HasPeriod, IsNoMistake, IsUnsaid, Meaning, Unsaid, asked_by, blocks_in, check, first_bad_block, first_bad_period, import, is_plain, list_blocks, losses, losses_shape, names_blocks, no_block, no_period, periods_in, plain, publish, replay, replay_shape, rewrite, show, task_asked, watch, watch_shape}
 use Rattle.words_core.specs.RequestLine.{AnswersAsked, AnswersRequest, AsksWith, MayRefuseRequest, MayRefuseWords, RefusesUnsaid, Wish, contradict, file_of_words, meaning_names_blocks, offered, options_in, request_asked, request_faults, request_line, request_of_words, takes_request, takes_words, task_of_words, with_these, word_faults}

@@ -32,7 +32,7 @@ use Rattle.publish_core.specs.Table.{AreSteps, step_at, step_of}
 use Rattle.subscribe_core.specs.declared.registers.Verdict.TheVariants as verdicts
 use Rattle.subscribe_core.proofs.BlockNames.{key_is_of}
 use Rattle.joint_laws.specs.PublishedList.{InTime, InTimeFrom, IsOwnBlock, Sent, one_entry_each, sent_from, with_frame, published_events}
-use Rattle.joint_laws.proofs.exchange_lemmas.Changes.{count, count_all}
+use Rattle.joint_laws.proofs.exchange_lemmas.Changes.{count, count_all, change_accepted, frame_is_spelled}
 use Rattle.joint_laws.proofs.exchange_lemmas.Received.{plain, readings_of, plain_frame, plain_spelled, received}
 use Rattle.joint_laws.proofs.exchange_lemmas.Stemming.{pdu_with}
 use Rattle.frame_core.specs.Frame.{SpellsFrame}
@@ -50,7 +50,6 @@ use Rattle.subscribe_core.specs.Entries.{AreEntries}
 use Rattle.subscribe_core.proofs.Runs.{runs_are_whole}
 use Rattle.joint_laws.specs.ExchangeLaws.{WholeRunsReplay}
 use Rattle.joint_laws.specs.Stems.{AreAccepted, HasSizes}
-use Rattle.joint_laws.proofs.exchange_lemmas.WrittenForms.{change_accepted, frame_is_spelled}
 
 -- a subscriber of one block with the mode off, and a frame at a moment
 

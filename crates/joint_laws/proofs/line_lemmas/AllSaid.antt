@@ -8,8 +8,7 @@ use Rattle.joint_laws.proofs.line_lemmas.ShowSaid.{blocks_says, check_says, show
 use Rattle.joint_laws.proofs.line_lemmas.EntrySaid.{twice_says, replay_says}
 use Rattle.joint_laws.proofs.line_lemmas.LineSaid.{back}
 use Rattle.joint_laws.proofs.line_lemmas.LossGiven.{losses_says}
-use Rattle.joint_laws.proofs.line_lemmas.SpokenLines.{back_none, gives_lines}
-use Rattle.joint_laws.proofs.line_lemmas.Told.{say_capture_fault, say_list_fault}
+use Rattle.joint_laws.proofs.line_lemmas.SpokenLines.{back_none, gives_lines, say_capture_fault, say_list_fault}
 
 pub lines_had_back : {A C F : Type 0} → LinesAreHadBack A C F
 lines_had_back {A} {C} {F} = (

@@ -33,9 +33,8 @@ use Rattle.joint_laws.specs.Given.{AreGivenBlocks, IsGivenBlock, IsWide, IsGiven
 use Rattle.joint_laws.specs.JsonLines.{TwiceIsJson, ReplayIsJson}
 use Rattle.joint_laws.proofs.line_lemmas.LineSaid.{act_words, line_said}
 use Rattle.joint_laws.proofs.line_lemmas.Optional.{two_are_octets}
-use Rattle.joint_laws.proofs.line_lemmas.SpokenLines.{Say, say_both, say_none, say_one, say_same, SayEach, all_both, json_said}
+use Rattle.joint_laws.proofs.line_lemmas.SpokenLines.{Say, say_both, say_none, say_one, say_same, SayEach, all_both, json_said, say_event, say_fault}
 use Rattle.joint_laws.proofs.line_lemmas.Spelled.{AreSpelled, frame_held, members_spelled}
-use Rattle.joint_laws.proofs.line_lemmas.Told.{say_event, say_fault}
 use Rattle.std.proofs.lemmas.Option.{same_Some, slice_get_within}
 use Rattle.std.proofs.lemmas.Bool.{cases_Bool}
 use Rattle.pdu_core.specs.Goose.{SpellsGoose}

@@ -51,7 +51,7 @@ use Rattle.loss_core.specs.Periods.{ArePeriods, IsPeriodOf, Period}
 use Rattle.loss_engine.proofs.Stands.{in_range}
 use Rattle.loss_engine.specs.computed.Tracking.{Progress, Tracked, frames, samples, counted, came_in, findings_by, first_progress, known_of, more_progress, sender_of, silent_since, stale_newest, synch_of, track, with_progress, total_by, Kept, back_by, back_where, closing_by, closing_pieces, findings_all, keep, keep_all, kept_none, numbered_all, pieces_by, pieces_of, sights_by, silences_by, totals_by, track_all}
 use Rattle.joint_laws.specs.Given.{IsGivenKind, IsWide, IsGiven}
-use Rattle.joint_laws.proofs.line_lemmas.SpokenLines.{all_both, Say, say_none, say_one, found_joined, say_both, say_joined}
+use Rattle.joint_laws.proofs.line_lemmas.SpokenLines.{all_both, Say, say_none, say_one, found_joined, say_both, say_joined, say_event}
 use Rattle.joint_laws.proofs.line_lemmas.Spelled.{frame_held}
 use Rattle.json.specs.Json.{object}
 use Rattle.date_core.specs.DateText.{date_text}
@@ -68,7 +68,6 @@ use Rattle.loss_core.specs.declared.sender.Pair.{Pair}
 use Rattle.loss_engine.specs.LossLine.{end_silent_line, finding_line, samples_line, sender_total_line, stream_total_line}
 use Rattle.loss_engine.specs.LossObject.{end_silent_object, finding_object, samples_object, sender_total_object, stream_total_object}
 use Rattle.joint_laws.proofs.line_lemmas.Optional.{two_are_octets}
-use Rattle.joint_laws.proofs.line_lemmas.Told.{say_event}
 use Rattle.std.proofs.lemmas.Option.{none-some, same_Some}
 use Rattle.list_core.specs.declared.event.Event.{Event}
 use Rattle.list_core.specs.Items.{Numbered}

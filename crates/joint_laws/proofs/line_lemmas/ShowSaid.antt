@@ -49,8 +49,7 @@ use Rattle.frame_engines.specs.ShowText.{answer_line, kind_line}
 use Rattle.joint_laws.specs.Given.{IsGivenKind, IsWide}
 use Rattle.joint_laws.specs.JsonLines.{ShowIsJson, CheckIsJson, WatchIsJson, BlocksIsJson}
 use Rattle.joint_laws.proofs.line_lemmas.FaultPlaces.{fault_wide}
-use Rattle.joint_laws.proofs.line_lemmas.SpokenLines.{Say, SayEach, json_said, say_same, say_both, say_none, same_place}
-use Rattle.joint_laws.proofs.line_lemmas.Told.{say_clock, say_event, say_fault, say_mode, say_destination, say_not_written}
+use Rattle.joint_laws.proofs.line_lemmas.SpokenLines.{Say, SayEach, json_said, say_same, say_both, say_none, same_place, say_clock, say_event, say_fault, say_mode, say_destination, say_not_written}
 use Rattle.std.proofs.lemmas.Fmt.{decimal_nonempty}
 use Rattle.std.proofs.lemmas.List.{length-append}
 use Rattle.engine_core.specs.EventsText.{exactly_each, EventText}

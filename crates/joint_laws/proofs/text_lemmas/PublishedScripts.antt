@@ -51,7 +51,7 @@ use Rattle.subscribe_core.specs.Entries.{AreEntriesAt}
 use Rattle.subscribe_core.specs.Apart.{AreApart}
 use Rattle.subscribe_core.proofs.Runs.{entries_are_one, entries_stay}
 use Rattle.joint_laws.proofs.exchange_lemmas.OneFrame.{one_apart, whole_runs_replay}
-use Rattle.joint_laws.proofs.exchange_lemmas.WrittenForms.{change_accepted}
+use Rattle.joint_laws.proofs.exchange_lemmas.Changes.{change_accepted}
 use Rattle.exchange_engines.specs.EntryText.{entry_lines}
 use Rattle.joint_laws.specs.ListLaws.{CanBeSent, CanBeWritten, PublishedListsReplay, WrittenListsReplay}
 use Rattle.exchange_engines.specs.ReplayText.{IsReplayText, events_of}

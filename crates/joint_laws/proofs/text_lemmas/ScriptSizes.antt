@@ -1,6 +1,6 @@
 -- The fields that the lines of a script set up have the sizes that the types of the code give them, and those written in digits of hexadecimal are octets.
-use Rattle.std.proofs.Common.{◌≡◌, ℕ, zero, suc, ◌+◌, ◌*◌, ◌^◌, ◌<◌, ◌≤◌, Bool, true, ◌&&◌, Option, Some, None, List, [], ◌∷◌, length, Result, Ok, Err, refl, arith, inl, inr, ◌++◌, map, false, ap, ap₂, subst, sym, ◌∙◌, append_assoc}
-use Rattle.std.specs.Prelude.{◌==◌, ◌-◌, ◌%◌, ◌/◌, nat_le, option_and_then, option_map, IfSome, ◌⊎◌, nat_lt, codes, IfOk}
+use Rattle.std.proofs.Common.{◌≡◌, ℕ, zero, suc, ◌+◌, ◌*◌, ◌^◌, ◌<◌, ◌≤◌, Bool, true, ◌&&◌, Option, Some, None, List, [], ◌∷◌, length, Result, Ok, Err, refl, arith, inl, inr, ◌++◌, map, false, ap, ap₂, subst, sym, ◌∙◌, append_assoc, take, slice_get, option_map}
+use Rattle.std.specs.Prelude.{◌==◌, ◌-◌, ◌%◌, ◌/◌, nat_le, option_and_then, IfSome, ◌⊎◌, nat_lt, codes, IfOk}
 use Rattle.std.proofs.lemmas.Bool.{and_parts, cond_both, eqb-true, leb-true, and_from, eqb-false, ltb-true}
 use Rattle.ber_core.specs.Length.{AreOctets}
 use Rattle.hex.specs.Hex.{decode_pairs, digit_or_error, hex_digit_value, ◌>>=◌}
@@ -47,10 +47,10 @@ use Rattle.script_core.specs.Script.{script_rules}
 use Rattle.script_core.specs.computed.LineReading.{all_said, line_said, script_said, settled}
 use Rattle.script_core.specs.computed.CallLine.{call_said, change_said_by, change_said, change_to, poll_of, poll_said, too_early}
 use Rattle.exchange_engines.specs.computed.PublishStep.{is_good, with_step}
-use Rattle.exchange_engines.specs.PublishText.{IsScriptSound, item_of_request, item_of_call, items_of_lines, script_of}
+use Rattle.exchange_engines.specs.PublishText.{IsScriptSound, item_of_request, item_of_call, items_of_lines, script_of, IsRefused, IsAnswered}
 use Rattle.exchange_engines.specs.ScriptLaws.{ScriptsAreInOrder, StandsBefore, StandsBeforeCall}
 use Rattle.exchange_engines.proofs.PublishLemmas.{good_each}
-use Rattle.joint_laws.specs.PublishedReplay.{script_of_text, SaysRun}
+use Rattle.joint_laws.specs.PublishedReplay.{script_of_text, SaysRun, StopsBehind}
 use Rattle.std.specs.Char.{is_ascii_digit}
 use Rattle.std.specs.Str.Parse.{digits_value}
 use Rattle.std.proofs.lemmas.Str.Parse.{digits_value_short}
@@ -60,6 +60,11 @@ use Rattle.std.proofs.lemmas.Bool.Decides.{nat_tests}
 use Rattle.list_core.specs.declared.device.InputEnd.TheVariants.{End}
 use Rattle.list_core.specs.declared.list_fault.ListCause.TheVariants.{LineTooLong, ListTooLong}
 use Rattle.joint_laws.specs.ListText.{MomentsAreShort}
+use Rattle.publish_core.specs.declared.fault.PublishFault.{PublishFault}
+use Rattle.publish_core.specs.Refusal.{Accepts, next_state}
+use Rattle.publish_core.specs.computed.Judgement.{IsJudged}
+use Rattle.publish_core.proofs.Judged.{changes_are_judged}
+use Rattle.joint_laws.specs.PublishedLaws.{SaysSomeRun, ScriptsSayRuns}
 
 -- ---- hexadecimal digits
 
@@ -636,3 +641,57 @@ pub script_octets : {A : Type 0} (p : Setup A) (calls : List Call) (z : InputEnd
 script_octets {A} p calls z text says =
     let w = says_limits p calls z text says in
     record { to = w.0.to_octets; from = w.0.from_octets; values = values_octets A calls (behind_steps p.table (map item_of_call calls) w.1) }
+
+-- ---- each script says the run of a publisher: the calls up to the first change that is refused
+
+-- behind others each of these calls is taken
+abbrev AllTaken : {A : Type 0} → Setup A → List Call → List Call → Type 0
+AllTaken p done [] = Unit {0}
+AllTaken p done (c ∷ cs) = IsAnswered p done c.request × AllTaken p (done ++ c ∷ []) cs
+
+all_accepted : {A : Type 0} (p : Setup A) (cs done : List Call) → AllTaken p done cs → (i : ℕ) (change : Change) → option_map (λ (c : Call). c.request) (slice_get cs i) ≡ Some (Changed change) → Accepts p (done ++ take i cs) change
+all_accepted p (c ∷ cs) done w zero change e = subst (λ (l : List Call). Accepts p l change) (sym (append-nil done)) (subst (IsAnswered p done) here w.0)
+  where
+    here : c.request ≡ Changed change
+    here = cc
+all_accepted p (c ∷ cs) done w (suc i) change e = subst (λ (l : List Call). Accepts p l change) (append_assoc done (c ∷ []) (take i cs)) (all_accepted p cs (done ++ c ∷ []) w.1 i change e)
+all_accepted p [] done w _ change e = absurd cc
+
+-- of any calls those up to the first change that is refused
+abbrev UpToRefused : {A : Type 0} → Setup A → List Call → List Call → Type 0
+UpToRefused p done cs = (calls : List Call) × (left : List Call) × (cs ≡ calls ++ left) × AllTaken p done calls × StopsBehind p (done ++ calls) left
+
+one_more : {A : Type 0} (p : Setup A) (done cs : List Call) (c : Call) → IsAnswered p done c.request → UpToRefused p (done ++ c ∷ []) cs → UpToRefused p done (c ∷ cs)
+one_more p done cs c taken w = (c ∷ w.0, w.1, ap (λ (l : List Call). c ∷ l) w.2, (taken, w.3), subst (λ (l : List Call). StopsBehind p l w.1) (append_assoc done (c ∷ []) w.0) w.4)
+
+-- a call is taken before those behind it, or refused
+call_judged : {A : Type 0} (p : Setup A) → AreSteps p.table → (done cs : List Call) (c : Call) → UpToRefused p (done ++ c ∷ []) cs → UpToRefused p done (c ∷ cs)
+call_judged {A} p steps done cs c rest = by_request c.request refl
+  where
+    by_answer : (change : Change) → c.request ≡ Changed change → (answer : Option PublishFault) → IsJudged p.control p.table (next_state p done) change answer → UpToRefused p done (c ∷ cs)
+    by_answer change is None accepted = one_more p done cs c (subst (IsAnswered p done) (sym is) accepted) rest
+    by_answer change is (Some why) refused =
+        ([], c ∷ cs, refl, tt, subst (λ (l : List Call). StopsBehind p l (c ∷ cs)) (sym (append-nil done)) (why, subst (λ (request : Request). IsRefused p done request why) (sym is) refused))
+
+    by_request : (request : Request) → c.request ≡ request → UpToRefused p done (c ∷ cs)
+    by_request (Changed change) is = let w = changes_are_judged p.control p.table (next_state p done) change steps in by_answer change is w.0 w.1
+    by_request Polled is = one_more p done cs c (subst (IsAnswered p done) (sym is) tt) rest
+
+up_to_refused : {A : Type 0} (p : Setup A) → AreSteps p.table → (cs done : List Call) → UpToRefused p done cs
+up_to_refused p steps [] done = ([], [], refl, tt, tt)
+up_to_refused p steps (c ∷ cs) done = call_judged p steps done cs c (up_to_refused p steps cs (done ++ c ∷ []))
+
+-- each script says the run of a publisher, or nothing of one
+pub scripts_say_runs : {A : Type 0} → ScriptsSayRuns A
+scripts_say_runs {A} z text = by_items (script_items z text)
+  where
+    by_setup : (p : Setup A) (calls : List Call) → items_of_lines (script_of_text z text).items ≡ script_of p calls → (calls ≡ []) ⊎ IsScriptSound p → SaysSomeRun (script_of_text {A = A} z text)
+    by_setup p calls is (inl none) =
+        record { publisher = p; calls = []; run = record { calls_left = []; items = is ∙ ap (script_of p) none; accepted = λ i change at. all_accepted p [] [] tt i change at; stops = tt } }
+    by_setup p calls is (inr sound) =
+        let w = up_to_refused p sound.steps calls [] in
+        record { publisher = p; calls = w.0; run = record { calls_left = w.1; items = is ∙ ap (script_of p) w.2; accepted = all_accepted p w.0 [] w.3; stops = w.4 } }
+
+    by_items : AreOfScript (items_of_lines (script_of_text {A = A} z text).items) → (items_of_lines (script_of_text {A = A} z text).items ≡ []) ⊎ SaysSomeRun (script_of_text {A = A} z text)
+    by_items (inl none) = inl none
+    by_items (inr w) = inr (by_setup w.0 w.1 w.2 w.3.sound)

@@ -1,4 +1,4 @@
-use Rattle.joint_laws.proofs.exchange_lemmas.WrittenForms.{epochs_stem, what_is_published_is_of_the_run}
+use Rattle.joint_laws.proofs.exchange_lemmas.Changes.{epochs_stem, what_is_published_is_of_the_run}
 use Rattle.joint_laws.proofs.exchange.what_is_published_is_of_the_run.Goals as goal
 
 pub returns : goal.returns

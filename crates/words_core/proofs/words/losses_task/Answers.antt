@@ -2,7 +2,7 @@ use Rattle.std.proofs.Common.{◌≡◌, refl, sym, subst, rules, true, Ok, Err}
 use Rattle.std.specs.Result.{is_ok}
 use Rattle.words_core.specs.CommandLine.{Meaning, losses, no_period, period_at}
 use Rattle.words_core.specs.computed.PrivateCalls.{AnswersWords}
-use Rattle.words_core.proofs.SaidTexts.{end_meant, none_meant, said_more}
+use Rattle.words_core.proofs.Digits.{end_meant, none_meant, said_more}
 use Rattle.words_core.specs.declared.words.Task.TheVariants.{Losses}
 use Rattle.words_core.specs.declared.words.WordsError.TheVariants as refused
 use Rattle.words_core.proofs.words.losses_task.Goals as goal

@@ -1,7 +1,7 @@
 use Rattle.std.proofs.Common.{◌≡◌, ◌∙◌, Some, None, codes}
 use Rattle.clap.specs.Words.{found_of, first_of, rows_of}
 use Rattle.clap.proofs.WalkLemmas.{first_value-rows}
-use Rattle.words_core.proofs.WatchRows.{period_parsed}
+use Rattle.words_core.proofs.KeptRows.{period_parsed}
 use Rattle.words_core.proofs.words.watch_met.Goals as goal
 
 pub returns-in_err-period : goal.returns-in_err-period
