@@ -1,5 +1,4 @@
 pub mod Changes
 pub mod Received
-pub mod Stemming
 pub mod OneFrame
 pub mod WorkedRun

@@ -8,7 +8,6 @@ pub mod WorkedExamples
 pub mod ListedItems
 pub mod BlockTexts
 pub mod ReplayLines
-pub mod CaptureReplays
 pub mod ChangesTold
 pub mod WrittenLines
 pub mod WorkedListing

@@ -173,8 +173,7 @@ module _ {X : Type 0} (read : Text → Option X) where
   passed [] [] rest e = omega arith
   passed (b ∷ bs) (x ∷ xs) rest e =
       let first = first_said b bs x xs e in
-      let later = passed bs xs rest first.1 in
-      rw first.0 (omega (arith, later))
+      rw first.0 (omega (arith, (passed bs xs rest first.1)))
   passed _ _ rest e = cc
 
   all_in : (said : List X) (texts : List Text) → map Some said ≡ map read texts → filter_map read texts ≡ said

@@ -276,10 +276,8 @@ module _ (s : Shape) (has : Argument → Bool) (finds : Finds s has) (reads : Re
 
       go : (b : Bool) → bytes_eq (argument_name a) id ≡ b → length (given_as id (done ++ a ∷ [])) ≤ 1
       go true t =
-          let size = all in
-          let here = own t in
           let before : length (given_as id done) ≡ 0 = ap length (subst (λ (n : Text). given_as n done ≡ []) ((bytes_eq-Decides (argument_name a) id).0 t) new) in
-          omega (arith, size, here, before)
+          omega (arith, all, own t, before)
       go false t = let size = all in let here = other t in let before = few id in omega (arith, size, here, before)
 
   -- words are arguments behind these, and the end

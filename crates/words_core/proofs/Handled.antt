@@ -195,9 +195,8 @@ each_passes (t ∷ ts) = each_passes ts
 more_settle : (rows : List Row) (ts : List Text) (t : Text) → length ts + 1 ≤ usize_max → settles replays rows (Some (codes "BLOCK", ts ++ t ∷ [])) ≡ true
 more_settle rows [] t fits = refl
 more_settle rows (x ∷ xs) t fits =
-    let size = length-append xs (t ∷ []) in
     let one : 1 ≤ length (x ∷ (xs ++ t ∷ [])) = omega arith in
-    let most : length (x ∷ (xs ++ t ∷ [])) ≤ usize_max = omega (arith, fits, size) in
+    let most : length (x ∷ (xs ++ t ∷ [])) ≤ usize_max = omega (arith, fits, length-append xs (t ∷ [])) in
     rw (le-leb 1 (length (x ∷ (xs ++ t ∷ []))) one, le-leb (length (x ∷ (xs ++ t ∷ []))) usize_max most) (each_passes (xs ++ t ∷ []))
 
 more_settled : (rows : List Row) (ts : List Text) (t : Text)
@@ -222,10 +221,9 @@ text_goes t f w rows_so n st fits = go st.pending st.is st.settled st.settling s
     more : (ts : List Text) → w ≡ state st.waiting st.rows (Some (codes "BLOCK", ts)) → settled_to replays st.rows (Some (codes "BLOCK", ts)) ≡ rows_so → length ts ≤ n
         → Went replays w (t ∷ []) (puts true (codes "BLOCK") (how_read replays (codes "BLOCK")) t rows_so) (n + 1)
     more ts is settled few =
-        let size = length-append ts (t ∷ []) in
         went_to replays w (t ∷ []) positional st.rows (Some (codes "BLOCK", ts ++ t ∷ [])) (puts true (codes "BLOCK") (how_read replays (codes "BLOCK")) t rows_so) (n + 1) refl
         (ap (λ (x : Walk). walked replays.rules [] x t) is ∙ next_more st.waiting st.free st.rows ts t f) (more_settled st.rows ts t ∙ ap (puts true (codes "BLOCK") (how_read replays (codes "BLOCK")) t) settled)
-        (more_settle st.rows ts t (omega (arith, few, fits))) (omega (arith, few, size)) (both_true _ _ passes refl)
+        (more_settle st.rows ts t (omega (arith, few, fits))) (omega (arith, few, length-append ts (t ∷ []))) (both_true _ _ passes refl)
 
     go : (p : Pending) → w ≡ state st.waiting st.rows p → settled_to replays st.rows p ≡ rows_so → settles replays st.rows p ≡ true → size_of p ≤ n
         → Went replays w (t ∷ []) (puts true (codes "BLOCK") (how_read replays (codes "BLOCK")) t rows_so) (n + 1)

@@ -241,9 +241,8 @@ module _ (s : Shape) (names : Names) (P : List Row → Type 0) (all : (test : Ru
   end_keeps words has below g e =
       let end = (walk s.rules names nothing_held words).held in
       let walking = walk_fault s names (walk_from nothing_held) words in
-      let last = settle_fault s.rules s.args_override_self end in
       let behind = then_none below _ (then_none walking _ e) in
-      settled_keeps s.rules s.args_override_self P all end (walk_keeps (walk_from nothing_held) words g (first_none walking _ e)) (first_none last _ behind)
+      settled_keeps s.rules s.args_override_self P all end (walk_keeps (walk_from nothing_held) words g (first_none walking _ e)) (first_none (settle_fault s.rules s.args_override_self end) _ behind)
 
 -- ---- an argument without a default adds no row at the end
 

@@ -111,8 +111,7 @@ all_before : (p : ℕ → Bool) (xs : Text) → list_any p xs ≡ false → posi
 all_before p [] e = refl
 all_before p (x ∷ xs) e =
     let parts = both_false (p x) (list_any p xs) e in
-    let rest = all_before p xs parts.1 in
-    rw parts.0 (omega (arith, rest))
+    rw parts.0 (omega (arith, (all_before p xs parts.1)))
 
 none_before : (p : ℕ → Bool) (xs : Text) → list_any p xs ≡ false → before_first p xs ≡ xs
 none_before p xs e = take_all (position_or_len p xs) xs (omega (arith, all_before p xs e))

@@ -282,9 +282,8 @@ unnamed_refused _ _ _ _ _ _ _ is = absurd is
 
 pub unnamed_not_taken : (words : List Text) (t : Asked) (options : Options) → request_of_words words ≡ Some (Ok (t, options)) → names_blocks t ≡ false → takes_words words ≡ true → ⊥
 unnamed_not_taken words t options wish unnamed taken =
-    let task = wish_means words (Ok (t, options)) wish in
     let parts = both (takes_request words) (meaning_names_blocks (task_of_words words)) taken in
-    true≢false (sym parts.1 ∙ ap meaning_names_blocks task ∙ unnamed)
+    true≢false (sym parts.1 ∙ ap meaning_names_blocks (wish_means words (Ok (t, options)) wish) ∙ unnamed)
 
 -- what is refused otherwise may be refused here
 pub refused_so : (words : List Text) (e : WordsError) → MayRefuseRequest words e → MayRefuseWords words e

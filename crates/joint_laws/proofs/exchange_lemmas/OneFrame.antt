@@ -33,8 +33,7 @@ use Rattle.subscribe_core.specs.declared.registers.Verdict.TheVariants as verdic
 use Rattle.subscribe_core.proofs.BlockNames.{key_is_of}
 use Rattle.joint_laws.specs.PublishedList.{InTime, InTimeFrom, IsOwnBlock, Sent, one_entry_each, sent_from, with_frame, published_events}
 use Rattle.joint_laws.proofs.exchange_lemmas.Changes.{count, count_all, change_accepted, frame_is_spelled}
-use Rattle.joint_laws.proofs.exchange_lemmas.Received.{plain, readings_of, plain_frame, plain_spelled, received}
-use Rattle.joint_laws.proofs.exchange_lemmas.Stemming.{pdu_with}
+use Rattle.joint_laws.proofs.exchange_lemmas.Received.{plain, readings_of, plain_frame, plain_spelled, received, pdu_with}
 use Rattle.frame_core.specs.Frame.{SpellsFrame}
 use Rattle.frame_core.specs.computed.FrameReading.{frame_at}
 use Rattle.frame_core.specs.Written.{written_frame}

@@ -58,10 +58,10 @@ use Rattle.date_core.specs.DateText.{date_text}
 use Rattle.text_core.specs.Pieces.{two_octets}
 use Rattle.object_core.specs.declared.counted.Counted.{Counted}
 use Rattle.object_core.specs.declared.counted.Form.TheVariants as forms
-use Rattle.object_core.specs.Objects.{date_value}
+use Rattle.object_core.specs.Objects.{date_value, object_line}
 use Rattle.engine_core.specs.EngineText.{ItemText}
-use Rattle.joint_laws.proofs.object_lemmas.PlainTexts.{by_test}
-use Rattle.joint_laws.proofs.object_lemmas.Containers.{Named, members_of}
+use Rattle.joint_laws.proofs.object_lemmas.PlainTexts.{are_plain, by_test}
+use Rattle.joint_laws.proofs.object_lemmas.Containers.{Named, members_of, fields_of, names_of}
 use Rattle.joint_laws.proofs.object_lemmas.Fields.{boolean_field, by, date_is, decimal_field, octets_field, string_or_null, text_field, word_field}
 use Rattle.joint_laws.proofs.object_lemmas.Lines.{moment_then, object_line_is}
 use Rattle.loss_core.specs.declared.sender.Pair.{Pair}
@@ -79,7 +79,8 @@ use Rattle.loss_engine.proofs.LossLaws.{losses_are}
 use Rattle.loss_engine.proofs.LossesOnce.{losses_once}
 use Rattle.joint_laws.specs.JsonLines.{AreJsonLines, LossesAreJson, TextsAreJson, written_of}
 use Rattle.joint_laws.specs.LinesBack.{GivesLosses, GivesTexts}
-use Rattle.joint_laws.proofs.line_lemmas.LineSaid.{back}
+use Rattle.joint_laws.proofs.line_lemmas.LineSaid.{back, line_said}
+use Rattle.joint_laws.proofs.object_lemmas.Names.{all_differ}
 
 -- ---- what frames show
 
@@ -403,17 +404,17 @@ say_back c n moment (Some by) small past given =
 
 -- ---- what is written at the end
 
-abbrev end_silent_kind : Named 0
-end_silent_kind = word_field 0 (codes "kind") (codes "end-silent") refl (by_test (codes "end-silent") refl)
+-- the line of no event, by its kind and the fields behind it
+abbrev kind_field : (kind : List ℕ) → are_plain kind ≡ true → Named 0
+kind_field kind plain = word_field 0 (codes "kind") kind refl (by_test kind plain)
+
+say_closing : (kind : List ℕ) (plain : are_plain kind ≡ true) (rest : List (Named 0)) (line : List ℕ) → all_differ (codes "kind" ∷ names_of rest) ≡ true → line_said (object (members_of (kind_field kind plain ∷ rest))) ≡ line
+    → Say (object_line (fields_of (kind_field kind plain ∷ rest))) line
+say_closing kind plain rest line differ says = say_one (object (members_of (kind_field kind plain ∷ rest))) _ line (object_line_is 0 (kind_field kind plain) rest (omega arith) differ) says
 
 say_end_silent : (key : Key) (since lasted : ℕ) → IsGivenKey key → IsWide since → IsWide lasted → Say (end_silent_object key since lasted) (end_silent_line key since lasted)
-say_end_silent (sender a r s) since lasted given wide long =
-    let rest = key_then (sender a r s) given (silence_named since lasted wide long) in say_one (object (members_of (end_silent_kind ∷ rest))) _ _ (object_line_is 0 end_silent_kind rest (omega arith) refl) refl
-say_end_silent (stream a o i) since lasted given wide long =
-    let rest = key_then (stream a o i) given (silence_named since lasted wide long) in say_one (object (members_of (end_silent_kind ∷ rest))) _ _ (object_line_is 0 end_silent_kind rest (omega arith) refl) refl
-
-abbrev total_goose_kind : Named 0
-total_goose_kind = word_field 0 (codes "kind") (codes "total-goose") refl (by_test (codes "total-goose") refl)
+say_end_silent (sender a r s) since lasted given wide long = say_closing (codes "end-silent") refl (key_then (sender a r s) given (silence_named since lasted wide long)) _ refl refl
+say_end_silent (stream a o i) since lasted given wide long = say_closing (codes "end-silent") refl (key_then (stream a o i) given (silence_named since lasted wide long)) _ refl refl
 
 abbrev sender_totals_named : (t : SenderTotals) → AreSmallSenderTotals t → List (Named 0)
 sender_totals_named t small =
@@ -428,13 +429,8 @@ sender_totals_named t small =
     ∷ []
 
 say_sender_total : (key : Key) (t : SenderTotals) → IsGivenKey key → AreSmallSenderTotals t → Say (sender_total_object key t) (sender_total_line key t)
-say_sender_total (sender a r s) t given small =
-    let rest = key_then (sender a r s) given (sender_totals_named t small) in say_one (object (members_of (total_goose_kind ∷ rest))) _ _ (object_line_is 0 total_goose_kind rest (omega arith) refl) refl
-say_sender_total (stream a o i) t given small =
-    let rest = key_then (stream a o i) given (sender_totals_named t small) in say_one (object (members_of (total_goose_kind ∷ rest))) _ _ (object_line_is 0 total_goose_kind rest (omega arith) refl) refl
-
-abbrev total_sv_kind : Named 0
-total_sv_kind = word_field 0 (codes "kind") (codes "total-sv") refl (by_test (codes "total-sv") refl)
+say_sender_total (sender a r s) t given small = say_closing (codes "total-goose") refl (key_then (sender a r s) given (sender_totals_named t small)) _ refl refl
+say_sender_total (stream a o i) t given small = say_closing (codes "total-goose") refl (key_then (stream a o i) given (sender_totals_named t small)) _ refl refl
 
 abbrev stream_totals_named : (t : StreamTotals) → AreSmallStreamTotals t → List (Named 0)
 stream_totals_named t small =
@@ -448,16 +444,12 @@ stream_totals_named t small =
     ∷ []
 
 say_stream_total : (key : Key) (t : StreamTotals) → IsGivenKey key → AreSmallStreamTotals t → Say (stream_total_object key t) (stream_total_line key t)
-say_stream_total (sender a r s) t given small =
-    let rest = key_then (sender a r s) given (stream_totals_named t small) in say_one (object (members_of (total_sv_kind ∷ rest))) _ _ (object_line_is 0 total_sv_kind rest (omega arith) refl) refl
-say_stream_total (stream a o i) t given small =
-    let rest = key_then (stream a o i) given (stream_totals_named t small) in say_one (object (members_of (total_sv_kind ∷ rest))) _ _ (object_line_is 0 total_sv_kind rest (omega arith) refl) refl
+say_stream_total (sender a r s) t given small = say_closing (codes "total-sv") refl (key_then (sender a r s) given (stream_totals_named t small)) _ refl refl
+say_stream_total (stream a o i) t given small = say_closing (codes "total-sv") refl (key_then (stream a o i) given (stream_totals_named t small)) _ refl refl
 
 say_samples : (key : Key) (count : ℕ) → IsGivenKey key → IsWide count → Say (samples_object key count) (samples_line key count)
-say_samples (sender a r s) count given small =
-    let rest = key_then (sender a r s) given (decimal_field 0 (codes "samples") count refl small ∷ []) in say_one (object (members_of (total_sv_kind ∷ rest))) _ _ (object_line_is 0 total_sv_kind rest (omega arith) refl) refl
-say_samples (stream a o i) count given small =
-    let rest = key_then (stream a o i) given (decimal_field 0 (codes "samples") count refl small ∷ []) in say_one (object (members_of (total_sv_kind ∷ rest))) _ _ (object_line_is 0 total_sv_kind rest (omega arith) refl) refl
+say_samples (sender a r s) count given small = say_closing (codes "total-sv") refl (key_then (sender a r s) given (decimal_field 0 (codes "samples") count refl small ∷ [])) _ refl refl
+say_samples (stream a o i) count given small = say_closing (codes "total-sv") refl (key_then (stream a o i) given (decimal_field 0 (codes "samples") count refl small ∷ [])) _ refl refl
 
 -- a piece says the same as an object and as a line, and is a finding in both
 abbrev pub SayPiece : ItemText → ItemText → Type 0

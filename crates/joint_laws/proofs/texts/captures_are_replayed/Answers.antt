@@ -1,4 +1,4 @@
-use Rattle.joint_laws.proofs.text_lemmas.CaptureReplays.{captures_are_replayed}
+use Rattle.joint_laws.proofs.text_lemmas.ReplayLines.{captures_are_replayed}
 use Rattle.joint_laws.proofs.texts.captures_are_replayed.Goals as goal
 
 pub returns : goal.returns
