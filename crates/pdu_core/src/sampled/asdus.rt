@@ -83,12 +83,13 @@ fn judge_any<const NOTES: bool>(
     Ok((next, written))
 }
 
-// The same: an ASDU of the usual fields without a call.
+// The same: where an ASDU of the usual fields is looked for, without a call for one.
 #[inline(always)]
 fn judge_asdu<const NOTES: bool>(
     octets: &[u8],
     at: usize,
     end: usize,
+    usual: bool,
 ) -> Result<(usize, bool), Fault>
     requires ordered { at ≤ end }
     requires inside { end ≤ length octets.now }
@@ -96,6 +97,9 @@ fn judge_asdu<const NOTES: bool>(
     ensures next { IfOk result (λ x. (at < x.0) × (x.0 ≤ end)) }
     ensures fault { IfErr result (λ f. asdu_at octets.now at end ≡ Err f) }
 {
+    if !usual {
+        return judge_any::<NOTES>(octets, at, end);
+    }
     match usual_asdu(octets, at, end) {
         Some((_, next)) => Ok((next, NOTES)),
         None => judge_any::<NOTES>(octets, at, end),
@@ -115,11 +119,13 @@ pub fn check_asdus<const NOTES: bool>(
     ensures found { IfOk result (λ n. (xs : List (Asdu (Unit {0}))) × (asdus_at octets.now at end ≡ Ok (items_of_each xs)) × (length xs ≡ n.0) × (n.1 ≡ true → slice_range octets.now at end ≡ written_asdus xs)) }
     ensures fault { IfErr result (λ f. asdus_at octets.now at end ≡ Err f) }
 {
+    // The ASDUs of a frame have the same fields: where the first has others, the usual ones are not looked for again.
+    let usual = usual_asdu(octets, at, end).is_some();
     let mut count = 0;
     let mut written = NOTES;
     let mut place = at;
     'asdus: while place < end {
-        let (next, stands) = judge_asdu::<NOTES>(octets, place, end)?;
+        let (next, stands) = judge_asdu::<NOTES>(octets, place, end, usual)?;
         place = next;
         written &= stands;
         count += 1;
