@@ -110,7 +110,8 @@ fn put_read<A: Allocator + Copy>(
     heading: Heading,
     octets: &[u8],
 ) -> Result<bool, AllocError>
-    ensures tells { IfOk result (λ found. TellsSights heading (periods_by losses.old) (kept_by losses.old) (sights_read {A = Unit {0}} (kept_by losses.old).moment (frame_at octets.now)) out.old.items found out.new.items (kept_by losses.new)) }
+    ensures tells { IfOk result (λ found. TellsSights heading (periods_by losses.old) (kept_by losses.old)
+        (sights_read {A = Unit {0}} (kept_by losses.old).moment (frame_at octets.now)) out.old.items found out.new.items (kept_by losses.new)) }
     ensures periods { periods_by losses.new ≡ periods_by losses.old }
     ensures wants { OnErr result (WantsFor heading (periods_by losses.old) (kept_by losses.old) (sights_read {A = Unit {0}} (kept_by losses.old).moment (frame_at octets.now))) }
     ensures kept { take (length out.old.items) out.new.items ≡ out.old.items }
